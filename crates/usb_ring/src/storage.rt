@@ -1,0 +1,169 @@
+// The bytes of a ring in a row of slots, which is used around its end: nothing is moved when bytes leave.
+ghost use Rattle.std.specs.Prelude.{◌≡◌, ℕ, ◌+◌, ◌-◌, ◌*◌, ◌^◌, ◌<◌, ◌≤◌, List, [], ◌∷◌, ◌++◌, length, take, drop, min, slice_index, IfOk};
+ghost use Rattle.usb_ring.specs.Ring.{Ring, room, appended, without_first, peeked, low_bytes};
+ghost use Rattle.usb_ring.specs.Slots.{around};
+
+use std::alloc::{AllocError, Global};
+use std::marker::Model;
+
+/// The greatest capacity of a ring, in bytes.
+pub const MOST_BYTES: usize = 4096;
+
+/// A queue of bytes in slots that were taken when it was made.
+#[derive(Drop)]
+pub struct ByteRing {
+    slots: Vec<u8>,
+    oldest: usize,
+    len: usize,
+}
+
+// Clauses see the bytes, oldest first, and how many there is room for.
+impl Model for ByteRing {
+    ghost use Rattle.std.specs.Prelude.{ℕ, ◌≡◌, ◌<◌, ◌≤◌, length, vec_len};
+    ghost use Rattle.usb_ring.specs.Ring.{Ring};
+    ghost use Rattle.usb_ring.specs.Slots.{held, IsRow};
+
+    ghost Value = { Ring };
+
+    ghost view = { λ r. record { bytes = held r.oldest r.len r.slots.items; capacity = vec_len r.slots } };
+
+    ghost invariant = { λ r. IsRow r.slots.items (vec_len r.slots) r.oldest r.len };
+}
+
+// A slot's number, counted on from the first slot where it is past the last.
+fn around_end(place: usize, capacity: usize) -> usize
+    requires { place < capacity + capacity }
+    ensures { result ≡ around place capacity }
+{
+    if place < capacity {
+        place
+    } else {
+        place - capacity
+    }
+}
+
+impl ByteRing {
+    /// An empty ring with room for 2^log2 bytes.
+    pub fn new(alloc: Global, log2: u8) -> Result<ByteRing, AllocError>
+        requires { log2 ≤ 12 }
+        ensures { IfOk result (λ ring. ring ≡ record { bytes = []; capacity = 2 ^ log2 }) }
+    {
+        let slots = vec![in alloc; 0u8; 1usize << log2]?;
+        Ok(ByteRing {
+            slots,
+            oldest: 0,
+            len: 0,
+        })
+    }
+
+    pub fn len(&self) -> usize
+        ensures count { result ≡ length self.now.bytes }
+        ensures small { result ≤ MOST_BYTES }
+    {
+        self.len
+    }
+
+    pub fn free(&self) -> usize
+        ensures sum { result + length self.now.bytes ≡ self.now.capacity }
+        ensures small { result ≤ MOST_BYTES }
+    {
+        self.slots.len() - self.len
+    }
+
+    /// Byte `at` of those held, the oldest being byte 0.
+    fn byte_at(&self, at: usize) -> u8
+        requires { at < length self.now.bytes }
+        ensures { result ≡ slice_index self.now.bytes at }
+    {
+        self.slots[around_end(self.oldest + at, self.slots.len())]
+    }
+
+    fn append_byte(&mut self, byte: u8)
+        requires { length self.old.bytes < self.old.capacity }
+        ensures { self.new ≡ appended self.old (byte ∷ []) }
+    {
+        let end = around_end(self.oldest + self.len, self.slots.len());
+        self.slots[end] = byte;
+        self.len += 1;
+    }
+
+    /// Appends the bytes, for which there must be room.
+    pub fn append(&mut self, bytes: &[u8])
+        requires { length self.old.bytes + length bytes.now ≤ self.old.capacity }
+        ensures { self.new ≡ appended self.old bytes.now }
+    {
+        for byte in bytes {
+            self.append_byte(*byte);
+        }
+    }
+
+    /// Copies the bytes from `at` on into the whole of `buf`; they must be there.
+    pub fn copy_from(&self, at: usize, buf: &mut [u8])
+        requires { at + length buf.old ≤ length self.now.bytes }
+        ensures { buf.new ≡ take (length buf.old) (drop at self.now.bytes) }
+    {
+        // What `len` says of its size keeps the place below in range.
+        let _held = self.len();
+        for (i, byte) in buf.iter_mut().enumerate() {
+            *byte = self.byte_at(at + i);
+        }
+    }
+
+    /// Copies the oldest bytes into the front of `buf`, as many as there are and as it takes, and tells how many.
+    pub fn copy_front(&self, buf: &mut [u8]) -> usize
+        ensures count { result ≡ min (length buf.old) (length self.now.bytes) }
+        ensures copied { buf.new ≡ take result self.now.bytes ++ drop result buf.old }
+        ensures small { result ≤ MOST_BYTES }
+    {
+        let count = buf.len().min(self.len());
+        self.copy_from(0, &mut buf[..count]);
+        count
+    }
+
+    /// The n bytes from `at` on as a number, the lowest byte first; they must be there.
+    pub fn number_at(&self, at: usize, n: usize) -> u32
+        requires counted { n ≤ 4 }
+        requires there { at + n ≤ length self.now.bytes }
+        ensures { result ≡ peeked self.now at n }
+    {
+        let mut bytes = [0u8; 4];
+        self.copy_from(at, &mut bytes[..n]);
+        u32::from_le_bytes(bytes)
+    }
+
+    /// Appends as many of the bytes, from the first on, as there is room for, and tells how many.
+    pub fn append_front(&mut self, bytes: &[u8]) -> usize
+        ensures count { result ≡ min (length bytes.now) (room self.old) }
+        ensures appended { self.new ≡ appended self.old (take result bytes.now) }
+        ensures small { result ≤ MOST_BYTES }
+    {
+        let count = bytes.len().min(self.free());
+        self.append(&bytes[..count]);
+        count
+    }
+
+    /// Appends the n lowest bytes of the word, the lowest first; there must be room for them.
+    pub fn append_low(&mut self, word: u32, n: usize)
+        requires counted { n ≤ 4 }
+        requires room { length self.old.bytes + n ≤ self.old.capacity }
+        ensures { self.new ≡ appended self.old (low_bytes n word) }
+    {
+        self.append(&word.to_le_bytes()[..n]);
+    }
+
+    /// Gives up the n oldest bytes, which must be there.
+    pub fn remove_first(&mut self, n: usize)
+        requires { n ≤ length self.old.bytes }
+        ensures { self.new ≡ without_first self.old n }
+    {
+        self.oldest = around_end(self.oldest + n, self.slots.len());
+        self.len -= n;
+    }
+
+    /// Gives up all bytes.
+    pub fn clear(&mut self)
+        ensures { self.new ≡ record self.old { bytes = [] } }
+    {
+        self.len = 0;
+    }
+}
