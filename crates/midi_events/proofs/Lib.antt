@@ -1,0 +1,2 @@
+pub mod ByteKinds
+pub mod Stream

@@ -1,0 +1,5 @@
+pub mod Bytes
+pub mod Events
+pub mod Kept
+pub mod Packing
+pub mod Spoken
