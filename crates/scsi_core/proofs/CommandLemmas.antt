@@ -1,0 +1,272 @@
+-- What every row of the table of commands keeps.
+use Rattle.std.proofs.Common.{◌≡◌, ◌≢◌, subst, ℕ, ◌+◌, ◌-◌, ◌≤◌, List, [], ◌∷◌, ◌++◌, take, Bool, true, false, nat_lt, nat_eq, if◌then◌else◌, IsTrue, Option, Some, None, unwrap_or, ◌⊎◌, inl, inr, refl, sym, arith, rules}
+use Rattle.std.specs.Prelude.{MatchOption, ⊤}
+use Rattle.std.proofs.lemmas.Bool.{ltb-false, eqb-true}
+use Rattle.byteorder.specs.Endian.{big_bytes}
+use Rattle.scsi_core.specs.declared.Sense.{Sense}
+use Rattle.scsi_core.specs.declared.Unit.{Unit as Disk}
+use Rattle.scsi_core.specs.declared.Move.{Move}
+use Rattle.scsi_core.specs.declared.Move.TheVariants.{None as Nothing, In, Read, Write, Sync, Fail}
+use Rattle.scsi_core.specs.Sense.{no_sense, medium_may_have_changed, medium_not_present, address_out_of_range, write_protected, invalid_command, invalid_field, removal_prevented, fixed_format}
+use Rattle.scsi_core.specs.Command.{Outcome, done, failed, worked, IsSound, or_else, told, ready, in_range, writable, byte, bit_0, bit_1, number, start_stop, Row, table, unknown, row_of, by_row, data_move, request_sense, told_sense}
+use Rattle.scsi_core.specs.Laws.{IsMovable, sense_left, FailureKeeps}
+
+-- the laws of `command`, as one fact
+pub record KeepsLaws (old : Disk) (cdb : List ℕ) (o : Outcome) : Type 0 where
+  pub size : o.leaves.blocks ≡ old.blocks
+  pub protection : o.leaves.protected ≡ old.protected
+  pub sound : IsSound o.leaves
+  pub movable : IsMovable old o.moves
+  pub sense : o.leaves.sense ≡ sense_left o.moves
+  pub failure : FailureKeeps old o.leaves o.moves
+  pub attention : byte 0 cdb ≢ 3 → (o.leaves.attention ≡ old.attention) ⊎ (o.moves ≡ Fail medium_may_have_changed)
+
+-- what holds of the outcome of each command but REQUEST SENSE, on a unit whose sense was forgotten
+pub record IsLawful (old : Disk) (o : Outcome) : Type 0 where
+  pub blocks : o.leaves.blocks ≡ old.blocks
+  pub protection : o.leaves.protected ≡ old.protected
+  pub sound : IsSound o.leaves
+  pub movable : IsMovable old o.moves
+  pub sense : o.leaves.sense ≡ sense_left o.moves
+  pub keeps : FailureKeeps old o.leaves o.moves
+  pub attention : (o.leaves.attention ≡ old.attention) ⊎ (o.moves ≡ Fail medium_may_have_changed)
+
+-- a fact that holds of both branches of a choice holds of the choice
+if_holds : {A : Type 0} (P : A → Type 0) (b : Bool) (x y : A) → (b ≡ true → P x) → (b ≡ false → P y) → P (if b then x else y)
+if_holds P true x y h k = h refl
+if_holds P false x y h k = k refl
+
+-- questions one after the other: N holds where the first lets pass, and M where both do
+or_else_holds : (P : Outcome → Type 0) (N M : Type 0) (a b : Option Outcome)
+    → MatchOption a N P → (N → MatchOption b M P) → MatchOption (or_else a b) M P
+or_else_holds P N M None b h k = k h
+or_else_holds P N M (Some o) b h k = h
+
+unwrap_or_holds : (P : Outcome → Type 0) (N : Type 0) (a : Option Outcome) (d : Outcome)
+    → MatchOption a N P → (N → P d) → P (unwrap_or a d)
+unwrap_or_holds P N None d h k = k h
+unwrap_or_holds P N (Some o) d h k = h
+
+failed_lawful : (unit : Disk) (s : Sense) → IsSound unit → IsLawful unit (failed s unit)
+failed_lawful unit s h = record {
+  blocks = refl;
+  protection = refl;
+  sound = record { given = h.given };
+  movable = tt;
+  sense = refl;
+  keeps = (refl, refl);
+  attention = inl refl;
+}
+
+-- where no sense is left, what is done is lawful if it may be moved
+done_lawful : (unit : Disk) (move : Move) → IsSound unit → unit.sense ≡ sense_left move → IsMovable unit move
+    → FailureKeeps unit unit move → IsLawful unit (done move unit)
+done_lawful unit move h s m k = record {
+  blocks = refl;
+  protection = refl;
+  sound = h;
+  movable = m;
+  sense = s;
+  keeps = k;
+  attention = inl refl;
+}
+
+told_lawful : (unit : Disk) (cdb : List ℕ) → IsSound unit → MatchOption (told unit cdb) ⊤ (IsLawful unit)
+told_lawful unit cdb h =
+    if_holds (λ o. MatchOption o ⊤ (IsLawful unit)) unit.attention _ _
+    (λ _. record {
+      blocks = refl;
+      protection = refl;
+      sound = record { given = h.given };
+      movable = tt;
+      sense = refl;
+      keeps = (refl, refl);
+      attention = inr refl;
+    })
+    (λ _. tt)
+
+ready_lawful : (unit : Disk) (cdb : List ℕ) → IsSound unit
+    → MatchOption (ready unit cdb) (IsTrue unit.present) (IsLawful unit)
+ready_lawful unit cdb h =
+    or_else_holds (IsLawful unit) ⊤ (IsTrue unit.present) (told unit cdb) _ (told_lawful unit cdb h)
+    (λ _. if_holds (λ o. MatchOption o (IsTrue unit.present) (IsLawful unit)) unit.present _ _ (λ e. e)
+    (λ _. failed_lawful unit medium_not_present h))
+
+-- the blocks of a transfer lie on a medium that is present
+abbrev InRange : Disk → List ℕ → Type 0
+InRange unit cdb = IsTrue unit.present × (number 2 4 cdb + number 7 2 cdb ≤ unit.blocks)
+
+in_range_lawful : (unit : Disk) (cdb : List ℕ) → IsSound unit
+    → MatchOption (in_range unit cdb) (InRange unit cdb) (IsLawful unit)
+in_range_lawful unit cdb h =
+    or_else_holds (IsLawful unit) (IsTrue unit.present) (InRange unit cdb) (ready unit cdb) _ (ready_lawful unit cdb h)
+    (λ p. if_holds (λ o. MatchOption o (InRange unit cdb) (IsLawful unit))
+    (nat_lt unit.blocks (number 2 4 cdb + number 7 2 cdb)) _ _
+    (λ _. failed_lawful unit address_out_of_range h)
+    (λ e. (p, ltb-false unit.blocks (number 2 4 cdb + number 7 2 cdb) e)))
+
+writable_lawful : (unit : Disk) (cdb : List ℕ) → IsSound unit
+    → MatchOption (writable unit cdb) (InRange unit cdb × (unit.protected ≡ false)) (IsLawful unit)
+writable_lawful unit cdb h =
+    or_else_holds (IsLawful unit) (InRange unit cdb) (InRange unit cdb × (unit.protected ≡ false)) (in_range unit cdb) _
+    (in_range_lawful unit cdb h)
+    (λ p. if_holds (λ o. MatchOption o (InRange unit cdb × (unit.protected ≡ false)) (IsLawful unit)) unit.protected _ _
+    (λ _. failed_lawful unit write_protected h) (λ e. (p, e)))
+
+data_movable : (unit : Disk) (bytes : List ℕ) → IsMovable unit (data_move bytes)
+data_movable unit [] = tt
+data_movable unit (first ∷ rest) = search rules
+
+data_sense : (bytes : List ℕ) → no_sense ≡ sense_left (data_move bytes)
+data_sense [] = refl
+data_sense (first ∷ rest) = refl
+
+data_keeps : (old new : Disk) (bytes : List ℕ) → FailureKeeps old new (data_move bytes)
+data_keeps old new [] = tt
+data_keeps old new (first ∷ rest) = tt
+
+-- the sense does not matter for what may be moved, and for what a failure keeps
+movable_of : (unit : Disk) (move : Move) → IsMovable (record unit { sense = no_sense }) move → IsMovable unit move
+movable_of unit Nothing h = h
+movable_of unit (In bytes) h = h
+movable_of unit (Read lba count) h = h
+movable_of unit (Write lba count) h = h
+movable_of unit Sync h = h
+movable_of unit (Fail sense) h = h
+
+keeps_of : (old new : Disk) (move : Move) → FailureKeeps (record old { sense = no_sense }) new move → FailureKeeps old new move
+keeps_of old new Nothing h = h
+keeps_of old new (In bytes) h = h
+keeps_of old new (Read lba count) h = h
+keeps_of old new (Write lba count) h = h
+keeps_of old new Sync h = h
+keeps_of old new (Fail sense) h = h
+
+data_lawful : (unit : Disk) (bytes : List ℕ) → IsSound unit → unit.sense ≡ no_sense → IsLawful unit (done (data_move bytes) unit)
+data_lawful unit [] h s = done_lawful unit Nothing h s tt tt
+data_lawful unit (first ∷ rest) h s = done_lawful unit (In (record { items = first ∷ rest })) h s (search rules) tt
+
+nothing_lawful : (unit : Disk) → IsSound unit → unit.sense ≡ no_sense → IsLawful unit (done Nothing unit)
+nothing_lawful unit h s = done_lawful unit Nothing h s tt tt
+
+start_stop_lawful : (unit : Disk) (flags : ℕ) → IsSound unit → unit.sense ≡ no_sense → IsLawful unit (start_stop unit flags)
+start_stop_lawful unit flags h s =
+    if_holds (IsLawful unit) (nat_eq flags 2) _ _
+    (λ _. if_holds (IsLawful unit) unit.prevented _ _ (λ _. failed_lawful unit removal_prevented h)
+    (λ _. record { blocks = refl; protection = refl; sound = record { given = λ e. grind arith }; movable = tt; sense = s; keeps = tt; attention = inl refl }))
+    (λ _. if_holds (IsLawful unit) (nat_eq flags 3) _ _
+    (λ _. if_holds (IsLawful unit) (nat_eq unit.blocks 0) _ _ (λ _. nothing_lawful unit h s)
+    (λ e. record { blocks = refl; protection = refl; sound = record { given = λ _. grind arith }; movable = tt; sense = s; keeps = tt; attention = inl refl }))
+    (λ _. nothing_lawful unit h s))
+
+-- a row is lawful on each unit whose sense was forgotten
+abbrev Lawful : Disk → List ℕ → Row → Type 0
+Lawful unit cdb r = IsLawful unit (by_row r unit cdb)
+
+abbrev EachRow : (Row → Type 0) → List Row → Type 0
+EachRow P [] = ⊤
+EachRow P (first ∷ rest) = P first × EachRow P rest
+
+row_of_holds : (P : Row → Type 0) (rows : List Row) (code : ℕ) → EachRow P rows → P unknown → P (row_of rows code)
+row_of_holds P [] code h k = k
+row_of_holds P (first ∷ rest) code h k =
+    if_holds P (nat_eq first.code code) first (row_of rest code) (λ _. h.0) (λ _. row_of_holds P rest code h.1 k)
+
+-- a command that asks this and then does nothing but move
+rows_lawful : (unit : Disk) (cdb : List ℕ) → IsSound unit → unit.sense ≡ no_sense → EachRow (Lawful unit cdb) table
+rows_lawful unit cdb h s =
+    let asks_ready : (o : Outcome) → IsLawful unit o → IsLawful unit (unwrap_or (ready unit cdb) o) =
+    λ o l. unwrap_or_holds (IsLawful unit) (IsTrue unit.present) (ready unit cdb) o (ready_lawful unit cdb h) (λ _. l) in
+    let asks_told : (o : Outcome) → IsLawful unit o → IsLawful unit (unwrap_or (told unit cdb) o) =
+    λ o l. unwrap_or_holds (IsLawful unit) ⊤ (told unit cdb) o (told_lawful unit cdb h) (λ _. l) in
+    let asks_in_range : (o : Outcome) → (InRange unit cdb → IsLawful unit o) → IsLawful unit (unwrap_or (in_range unit cdb) o) =
+    λ o l. unwrap_or_holds (IsLawful unit) (InRange unit cdb) (in_range unit cdb) o (in_range_lawful unit cdb h) l in (
+      asks_ready _ (nothing_lawful unit h s),
+      (
+        if_holds (IsLawful unit) (bit_0 1 cdb) _ _ (λ _. failed_lawful unit invalid_field h) (λ _. data_lawful unit _ h s),
+        (
+          asks_ready _ (data_lawful unit _ h s),
+          (
+            asks_told _ (start_stop_lawful unit (byte 4 cdb) h s),
+            (
+              asks_told _ (record { blocks = refl; protection = refl; sound = record { given = h.given }; movable = tt; sense = s; keeps = tt; attention = inl refl }),
+              (
+                asks_ready _ (data_lawful unit _ h s),
+                (
+                  asks_ready _ (data_lawful unit (big_bytes 4 (unit.blocks - 1) ++ big_bytes 4 512) h s),
+                  (
+                    asks_in_range _ (λ p. if_holds (λ m. IsLawful unit (done m unit)) (nat_eq (number 7 2 cdb) 0) _ _
+                        (λ _. nothing_lawful unit h s)
+                        (λ e. done_lawful unit (Read (number 2 4 cdb) (number 7 2 cdb)) h s (p.0, grind arith, p.1) tt)),
+                    (
+                      unwrap_or_holds (IsLawful unit) (InRange unit cdb × (unit.protected ≡ false)) (writable unit cdb) _ (writable_lawful unit cdb h)
+                          (λ p. if_holds (λ m. IsLawful unit (done m unit)) (nat_eq (number 7 2 cdb) 0) _ _
+                          (λ _. nothing_lawful unit h s)
+                          (λ e. done_lawful unit (Write (number 2 4 cdb) (number 7 2 cdb)) h s (p.0.0, p.1, grind arith, p.0.1) tt)),
+                      (
+                        asks_in_range _ (λ _. if_holds (IsLawful unit) (bit_1 1 cdb) _ _ (λ _. failed_lawful unit invalid_field h)
+                            (λ _. nothing_lawful unit h s)),
+                        (
+                          unwrap_or_holds (IsLawful unit) (IsTrue unit.present) (ready unit cdb) _ (ready_lawful unit cdb h)
+                              (λ p. done_lawful unit Sync h s p tt),
+                          tt,
+                        ),
+                      ),
+                    ),
+                  ),
+                ),
+              ),
+            ),
+          ),
+        ),
+      ),
+    )
+
+pub by_row_lawful : (unit : Disk) (cdb : List ℕ) (code : ℕ) → IsSound unit → unit.sense ≡ no_sense
+    → IsLawful unit (by_row (row_of table code) unit cdb)
+by_row_lawful unit cdb code h s =
+    row_of_holds (Lawful unit cdb) table code (rows_lawful unit cdb h s)
+    (unwrap_or_holds (IsLawful unit) (IsTrue unit.present) (ready unit cdb) _ (ready_lawful unit cdb h)
+    (λ _. failed_lawful unit invalid_command h))
+
+request_sense_lawful : (unit : Disk) (cdb : List ℕ) → IsSound unit → byte 0 cdb ≡ 3 → KeepsLaws unit cdb (request_sense unit cdb)
+request_sense_lawful unit cdb h is_3 =
+    let m : IsMovable unit (request_sense unit cdb).moves = data_movable unit (take (byte 4 cdb) (fixed_format (told_sense unit))) in
+    record {
+      size = refl;
+      protection = refl;
+      sound = record { given = h.given };
+      movable = m;
+      sense = data_sense (take (byte 4 cdb) (fixed_format (told_sense unit)));
+      failure = data_keeps unit (request_sense unit cdb).leaves (take (byte 4 cdb) (fixed_format (told_sense unit)));
+      attention = λ not_3. absurd (not_3 is_3);
+    }
+
+-- every command keeps the laws
+pub worked_keeps_laws : (unit : Disk) (cdb : List ℕ) → IsSound unit → KeepsLaws unit cdb (worked unit cdb)
+worked_keeps_laws unit cdb h =
+    if_holds (KeepsLaws unit cdb) (nat_eq (byte 0 cdb) 3) _ _
+    (λ e. request_sense_lawful unit cdb h (eqb-true (byte 0 cdb) 3 e))
+    (λ _. let o = by_row (row_of table (byte 0 cdb)) (record unit { sense = no_sense }) cdb in
+    let l = by_row_lawful (record unit { sense = no_sense }) cdb (byte 0 cdb) (record { given = h.given }) refl in
+    record {
+      size = l.blocks;
+      protection = l.protection;
+      sound = l.sound;
+      movable = movable_of unit o.moves l.movable;
+      sense = l.sense;
+      failure = keeps_of unit o.leaves o.moves l.keeps;
+      attention = λ _. l.attention;
+    })
+
+-- so do an answer and a unit that are those of the table
+laws_at : (old new : Disk) (cdb : List ℕ) (moves : Move) (o : Outcome) → moves ≡ o.moves → new ≡ o.leaves
+    → KeepsLaws old cdb o → KeepsLaws old cdb (record { moves = moves; leaves = new })
+laws_at old new cdb moves o m l h =
+    let P : Move → Type 0 = λ x. KeepsLaws old cdb (record { moves = x; leaves = o.leaves }) in
+    let Q : Disk → Type 0 = λ x. KeepsLaws old cdb (record { moves = moves; leaves = x }) in
+    subst Q (sym l) (subst P (sym m) h)
+
+pub laws_of : (old new : Disk) (cdb : List ℕ) (moves : Move) → IsSound old
+    → moves ≡ (worked old cdb).moves → new ≡ (worked old cdb).leaves → KeepsLaws old cdb (record { moves = moves; leaves = new })
+laws_of old new cdb moves h m l = laws_at old new cdb moves (worked old cdb) m l (worked_keeps_laws old cdb h)

@@ -1,0 +1,4 @@
+pub mod Sense
+pub mod Command
+pub mod Steps
+pub mod Laws
