@@ -1,0 +1,5 @@
+pub mod Cuts
+pub mod Fields
+pub mod Kept
+pub mod Rows
+pub mod Steps

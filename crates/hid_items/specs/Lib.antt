@@ -1,0 +1,4 @@
+pub mod Item
+pub mod State
+pub mod Lengths
+pub mod Reports
