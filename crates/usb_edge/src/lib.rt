@@ -1,0 +1,15 @@
+//! The program's outside: where bytes come from and where they go, with each fault counted.
+#![tactic(auto)]
+
+mod disks;
+mod memory;
+mod real;
+mod stream;
+
+pub use disks::{Disks, FileDisks};
+pub use memory::{MemSink, MemSource};
+pub use real::{StderrSink, StdinSource, StdoutSink};
+pub use stream::{Got, Sink, Source, Wrote};
+
+#[cfg(test)]
+mod tests;
