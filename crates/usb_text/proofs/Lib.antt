@@ -1,0 +1,11 @@
+pub mod Pieces
+pub mod Numbers
+pub mod Pairs
+pub mod Hex
+pub mod Decimal
+pub mod Spaced
+pub mod Printed
+pub mod Read
+pub mod Heads
+pub mod Plain
+pub mod Spelling

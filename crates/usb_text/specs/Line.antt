@@ -1,0 +1,101 @@
+-- The lines of a device's job, each with its one spelling.
+use Rattle.std.specs.Prelude.{◌≡◌, ℕ, ◌<◌, ◌≤◌, List, [], ◌∷◌, ◌++◌, Bool, true, false, length, codes, ⊤}
+use Rattle.std.specs.List.{AllByRecursion}
+use Rattle.std.specs.Fmt.{decimal}
+use Rattle.usb_packet.specs.declared.bus.Toggle.{Toggle}
+use Rattle.usb_packet.specs.declared.bus.Toggle.TheVariants.{D0, D1}
+use Rattle.usb_packet.specs.declared.bus.BusEvent.{BusEvent}
+use Rattle.usb_packet.specs.declared.bus.BusEvent.TheVariants as event
+use Rattle.usb_packet.specs.declared.bus.BusAnswer.{BusAnswer}
+use Rattle.usb_packet.specs.declared.bus.BusAnswer.TheVariants as bus
+use Rattle.usb_text.specs.declared.line.DevLine.{DevLine}
+use Rattle.usb_text.specs.declared.line.DevLine.TheVariants.{Bus, Irq, Task}
+use Rattle.usb_text.specs.declared.line.Answer.{Answer}
+use Rattle.usb_text.specs.declared.line.Answer.TheVariants as answer
+use Rattle.usb_text.specs.declared.line.Line.{Line}
+use Rattle.usb_text.specs.declared.line.Line.TheVariants.{Device, End}
+use Rattle.usb_text.specs.Field.{spaced, hex}
+
+abbrev pub newline : ℕ
+newline = 10
+
+-- bytes are numbers below 256
+abbrev pub AreBytes : List ℕ → Type 0
+AreBytes bytes = AllByRecursion (λ b. b < 256) bytes
+
+-- the greatest device address and the greatest endpoint number (USB 2.0, 8.3.2.1 and 8.3.2.2)
+abbrev pub most_address : ℕ
+most_address = 127
+
+abbrev pub most_endpoint : ℕ
+most_endpoint = 15
+
+-- whether all went well: `ok`, or the word for the other case
+abbrev pub fate_text : List ℕ → Bool → List ℕ
+fate_text other true = codes "ok"
+fate_text other false = other
+
+-- a packet that was damaged
+abbrev pub bad : List ℕ
+bad = codes "bad"
+
+-- data that the host didn't acknowledge
+abbrev pub noack : List ℕ
+noack = codes "noack"
+
+abbrev pub toggle_text : Toggle → List ℕ
+toggle_text D0 = codes "0"
+toggle_text D1 = codes "1"
+
+-- the words of a bus event: `reset`, `setup ADDR HEX FATE`, `out ADDR EP T HEX FATE`, `in ADDR EP FATE`
+abbrev pub event_words : BusEvent → List (List ℕ)
+event_words event.Reset = codes "reset" ∷ []
+event_words (event.Setup addr bytes ok) = codes "setup" ∷ decimal addr ∷ hex bytes ∷ fate_text bad ok ∷ []
+event_words (event.Out addr ep toggle packet ok) = codes "out" ∷ decimal addr ∷ decimal ep ∷ toggle_text toggle ∷ hex packet ∷ fate_text bad ok ∷ []
+event_words (event.In addr ep ok) = codes "in" ∷ decimal addr ∷ decimal ep ∷ fate_text noack ok ∷ []
+
+abbrev pub device_words : DevLine → List (List ℕ)
+device_words (Bus e) = event_words e
+device_words Irq = codes "irq" ∷ []
+device_words Task = codes "task" ∷ []
+
+abbrev pub line_words : Line → List (List ℕ)
+line_words (Device line) = device_words line
+line_words End = codes "end" ∷ []
+
+-- the text of a line, without the newline that ends it
+abbrev pub line_text : Line → List ℕ
+line_text line = spaced (line_words line)
+
+-- the ranges of a bus event's fields
+abbrev pub IsEvent : BusEvent → Type 0
+IsEvent event.Reset = ⊤
+IsEvent (event.Setup addr bytes ok) = (addr ≤ most_address) × (length bytes ≡ 8) × AreBytes bytes
+IsEvent (event.Out addr ep toggle packet ok) = (addr ≤ most_address) × (ep ≤ most_endpoint) × (length packet ≤ 64) × AreBytes packet
+IsEvent (event.In addr ep ok) = (addr ≤ most_address) × (ep ≤ most_endpoint)
+
+abbrev pub IsDeviceLine : DevLine → Type 0
+IsDeviceLine (Bus e) = IsEvent e
+IsDeviceLine Irq = ⊤
+IsDeviceLine Task = ⊤
+
+abbrev pub IsLine : Line → Type 0
+IsLine (Device line) = IsDeviceLine line
+IsLine End = ⊤
+
+-- the text of what a device answers on the bus
+abbrev pub data_text : Toggle → List ℕ
+data_text D0 = codes "data0 "
+data_text D1 = codes "data1 "
+
+abbrev pub bus_text : BusAnswer → List ℕ
+bus_text bus.Done = codes "ok"
+bus_text bus.Ack = codes "ack"
+bus_text bus.Nak = codes "nak"
+bus_text bus.Stall = codes "stall"
+bus_text bus.NoAnswer = codes "none"
+bus_text (bus.Data toggle packet) = data_text toggle ++ hex packet
+
+-- the text of an answer, without the newline that ends it
+abbrev pub answer_text : Answer → List ℕ
+answer_text (answer.Bus a) = bus_text a
