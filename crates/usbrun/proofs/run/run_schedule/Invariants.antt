@@ -1,0 +1,14 @@
+use Rattle.std.proofs.Common.{◌≤◌, ◌-◌}
+use Rattle.device_schedule.specs.Job.{most_bytes}
+use Rattle.usbrun.specs.Session.{Progress}
+use Rattle.usbrun.proofs.run.run_schedule.Given as goal
+
+abbrev pub invariant-lines : goal.invariant-lines
+invariant-lines g l = record {
+  progress : Progress (g.S.Source.left l.fn.src) (g.S.Source.left l.src) (g.K.Sink.taken l.fn.out) (g.K.Sink.taken l.out) l.fn.session l.session;
+  source : g.S.Source.faults l.fn.src ≤ g.S.Source.faults l.src;
+  sink : g.K.Sink.faults l.fn.out ≤ g.K.Sink.faults l.out;
+}
+
+abbrev pub decreases-lines : goal.decreases-lines
+decreases-lines g l = most_bytes - l.session.count

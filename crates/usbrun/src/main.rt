@@ -1,0 +1,55 @@
+//! Replays a schedule of bus events, handler runs and task runs of a USB device, and answers each line.
+#![tactic(auto)]
+
+mod head;
+mod next;
+mod reader;
+mod run;
+mod session;
+mod status;
+#[cfg(test)]
+mod tests;
+mod top;
+mod writer;
+
+use status::Status;
+use std::process::ExitCode;
+use std::{env, io};
+use usb_edge::{FileDisks, StderrSink, StdinSource, StdoutSink};
+
+/// The words after the program's name.
+fn words(rt: &HostRuntime) -> io::Result<Vec<String>> {
+    let mut words = Vec::new(rt.alloc());
+    for word in env::args(rt)?.skip(1) {
+        words.push(word)?;
+    }
+    Ok(words)
+}
+
+/// Runs the program on these words, and on the process's streams.
+fn run_words(rt: &HostRuntime, words: &[String]) -> io::Result<Status> {
+    let mut texts: Vec<&str> = Vec::new(rt.alloc());
+    for word in words {
+        texts.push(word.as_str())?;
+    }
+    let mut src = StdinSource::new(rt.stdin());
+    let mut out = StdoutSink::new(rt.stdout());
+    let mut err = StderrSink::new(rt.stderr());
+    let mut disks = FileDisks::new();
+    Ok(top::usb_top(
+        rt.alloc(),
+        texts.as_slice(),
+        &mut src,
+        &mut out,
+        &mut err,
+        &mut disks,
+    ))
+}
+
+fn main(rt: HostRuntime) -> ExitCode {
+    let status = match words(&rt) {
+        Ok(words) => run_words(&rt, words.as_slice()).unwrap_or(Status::NoMemory),
+        Err(_) => Status::NoMemory,
+    };
+    ExitCode::from(status.number())
+}

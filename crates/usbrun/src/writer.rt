@@ -1,0 +1,99 @@
+ghost use Rattle.std.specs.Prelude.{◌≡◌, ℕ, ◌+◌, ◌<◌, ◌≤◌, ◌↔◌, List, [], ◌++◌, false, length, take, drop, IsTrue};
+ghost use Rattle.arrayvec.specs.ArrayVec.{array_vec_len};
+ghost use Rattle.usb_edge.specs.Stream.{Takes, Rose};
+ghost use Rattle.device_schedule.specs.Schedule.{answer_line};
+ghost use Rattle.usbrun.specs.Stream.{Hands};
+
+use arrayvec::ArrayVec;
+use std::marker::Model;
+use usb_edge::{Sink, Wrote};
+use usb_text::{Answer, MOST_ANSWER, push_answer};
+
+/// How many bytes wait at most.
+const BLOCK: usize = 8192;
+
+/// The text that waits to be written.
+#[derive(Drop)]
+pub struct Writer {
+    waiting: ArrayVec<u8, 8192>,
+}
+
+impl Model for Writer {
+    ghost Value = { List ℕ };
+
+    ghost view = { λ w. w.waiting.items };
+
+    ghost invariant = { λ w. length w.waiting.items ≤ 8192 };
+}
+
+impl Writer {
+    /// Nothing waits.
+    pub fn new() -> Writer
+        ensures { result ≡ [] }
+    {
+        Writer {
+            waiting: ArrayVec::new(),
+        }
+    }
+
+    /// Whether one answer more has room.
+    pub fn has_room(&self) -> bool
+        ensures { IsTrue result ↔ (length self.now + 135 ≤ 8192) }
+    {
+        self.waiting.len() + MOST_ANSWER <= BLOCK
+    }
+
+    /// Puts an answer's line behind what waits.
+    pub fn push(&mut self, answer: &Answer)
+        requires { length self.old + 135 ≤ 8192 }
+        ensures { self.new ≡ self.old ++ answer_line answer.now }
+    {
+        push_answer(&mut self.waiting, answer);
+    }
+
+    /// Hands on all that waits: whether the sink took it.
+    #[tactic(auto, using(crate::proofs::Handed::all_handed, crate::proofs::Handed::some_handed))]
+    pub fn flush<K: Sink>(&mut self, out: &mut K) -> bool
+        ensures hands { Hands (K.taken out.old) (K.taken out.new) self.old self.new }
+        ensures done { IsTrue result → self.new ≡ [] }
+        ensures failed { result ≡ false → Rose (K.faults out.old) (K.faults out.new) }
+        ensures count { K.faults out.old ≤ K.faults out.new }
+    {
+        let given = hand_on(self.waiting.as_slice(), out);
+        if given == self.waiting.len() {
+            self.waiting.clear();
+            true
+        } else {
+            self.waiting = rest_of(&self.waiting, given);
+            false
+        }
+    }
+}
+
+/// What stands behind the first `n` bytes.
+fn rest_of(bytes: &ArrayVec<u8, 8192>, n: usize) -> ArrayVec<u8, 8192>
+    requires { n ≤ array_vec_len bytes.now }
+    ensures { result.items ≡ drop n bytes.now.items }
+{
+    let mut rest = ArrayVec::new();
+    let _ = rest.try_extend_from_slice(&bytes.as_slice()[n..]);
+    rest
+}
+
+#[tactic(auto, using(crate::proofs::Handed::none_taken))]
+/// Hands bytes to a sink until it took all or failed: how many it took.
+fn hand_on<K: Sink>(bytes: &[u8], out: &mut K) -> usize
+    ensures within { result ≤ length bytes.now }
+    ensures takes { Takes (K.taken out.old) (K.taken out.new) (take result bytes.now) }
+    ensures failed { result < length bytes.now → Rose (K.faults out.old) (K.faults out.new) }
+    ensures count { K.faults out.old ≤ K.faults out.new }
+{
+    let mut given = 0;
+    while given < bytes.len() {
+        match out.write(&bytes[given..]) {
+            Wrote::Bytes(n) => given += n,
+            Wrote::Failed => return given,
+        }
+    }
+    given
+}
