@@ -1,0 +1,96 @@
+-- What an accepted set shows: its bytes, and its interfaces and endpoints with their owners.
+use Rattle.std.specs.Prelude.{◌≡◌, is_some, ℕ, List, Bool, true, ◌==◌, ◌||◌, Option, Some, None, if◌then◌else◌, map, filter, find}
+use Rattle.std.specs.List.{list_any}
+use Rattle.std.specs.Option.{option_map}
+use Rattle.usb_packet.specs.declared.bus.Owner.{Owner}
+use Rattle.usb_packet.specs.declared.bus.Owner.TheVariants.{Core}
+use Rattle.usb_descriptor.specs.declared.descriptor.Descriptor.{Descriptor}
+use Rattle.usb_descriptor.specs.declared.endpoint.EpKind.{EpKind}
+use Rattle.usb_descriptor.specs.declared.endpoint.EpKind.TheVariants.{Bulk, Interrupt}
+use Rattle.usb_descriptor.specs.declared.endpoint.Endpoint.{Endpoint}
+use Rattle.usb_descriptor.specs.declared.endpoint.Interface.{Interface}
+use Rattle.usb_descriptor.specs.declared.strings.StringDescriptor.{StringDescriptor}
+use Rattle.usb_descriptor.specs.declared.limits.EpLimits.{EpLimits}
+use Rattle.usb_descriptor.specs.Row.{byte, row_of}
+use Rattle.usb_descriptor.specs.Kinds.{is_interface, is_endpoint, number, address, transfer, bulk, left_of}
+use Rattle.usb_descriptor.specs.Verdict.{verdict}
+
+-- a set, by the descriptors that a host can ask for
+pub record Set : Type 0 where
+  pub device : List ℕ
+  pub config : List ℕ
+  pub strings : List StringDescriptor
+  pub report : Option (List ℕ)
+
+-- whether a set is accepted: it breaks none of the eighteen rules
+abbrev pub IsAccepted : Set → EpLimits → Type 0
+IsAccepted set limits = verdict set.device set.config (is_some set.report) limits ≡ None
+
+-- who has an interface or an endpoint of a row: the class that drives its group. No class is driven yet,
+-- so the core has each.
+abbrev pub owner_of : List Descriptor → Descriptor → Owner
+owner_of row d = Core
+
+abbrev pub kind_of : ℕ → EpKind
+kind_of transfer = if transfer == bulk then Bulk else Interrupt
+
+-- bEndpointAddress, bmAttributes and wMaxPacketSize (USB 2.0, 9.6.6). The twelfth rule has the size at most
+-- 64, so that its lower byte is all of it.
+abbrev pub endpoint_of : List Descriptor → Descriptor → Endpoint
+endpoint_of row d = record { addr = address d; kind = kind_of (transfer d); size = byte d 4; owner = owner_of row d }
+
+abbrev pub interface_at : List Descriptor → Descriptor → Interface
+interface_at row d = record { number = number d; owner = owner_of row d }
+
+-- the endpoints and the interfaces of a row, in its order
+abbrev pub endpoints_in : List Descriptor → List Endpoint
+endpoints_in row = map (endpoint_of row) (filter is_endpoint row)
+
+abbrev pub interfaces_in : List Descriptor → List Interface
+interfaces_in row = map (interface_at row) (filter is_interface row)
+
+-- those of a configuration, without its passed-over parts
+abbrev pub endpoints_of : List ℕ → List Endpoint
+endpoints_of config = endpoints_in (left_of (row_of config))
+
+abbrev pub interfaces_of : List ℕ → List Interface
+interfaces_of config = interfaces_in (left_of (row_of config))
+
+abbrev pub is_numbered : ℕ → Interface → Bool
+is_numbered n i = i.number == n
+
+abbrev pub is_addressed : ℕ → Endpoint → Bool
+is_addressed a e = e.addr == a
+
+abbrev pub is_core : Owner → Bool
+is_core Core = true
+
+abbrev pub same_owner : Owner → Owner → Bool
+same_owner Core Core = true
+
+abbrev pub belongs : Owner → Interface → Bool
+belongs owner i = same_owner i.owner owner
+
+-- what isn't there is the core's
+abbrev pub interface_owner : Option Interface → Owner
+interface_owner None = Core
+interface_owner (Some i) = i.owner
+
+abbrev pub endpoint_owner : Option Endpoint → Owner
+endpoint_owner None = Core
+endpoint_owner (Some e) = e.owner
+
+abbrev pub owner_of_interface : List ℕ → ℕ → Owner
+owner_of_interface config n = interface_owner (find (is_numbered n) (interfaces_of config))
+
+abbrev pub owner_of_endpoint : List ℕ → ℕ → Owner
+owner_of_endpoint config a = endpoint_owner (find (is_addressed a) (endpoints_of config))
+
+-- whether a set has an owner: the core, or one of an interface
+abbrev pub has_owner : List ℕ → Owner → Bool
+has_owner config owner = is_core owner || list_any (belongs owner) (interfaces_of config)
+
+-- the first interface of a class; the core is no class
+abbrev pub first_interface_of : List ℕ → Owner → Option ℕ
+first_interface_of config owner =
+    if is_core owner then None else option_map (λ i. i.number) (find (belongs owner) (interfaces_of config))

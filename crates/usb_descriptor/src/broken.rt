@@ -1,0 +1,48 @@
+ghost use Rattle.std.specs.Prelude.{◌≡◌, ◌<◌, ◌≤◌, ◌+◌, [], take, drop, length};
+ghost use Rattle.usb_descriptor.specs.Rules.{breaks, first_broken};
+
+use crate::descriptor::Descriptor;
+use crate::group::{has_wrong_hid, has_wrong_pair, has_wrong_serial};
+use crate::limits::EpLimits;
+use crate::rule::{
+    Rule, has_wrong_address, has_wrong_count, has_wrong_number, has_wrong_packets, has_wrong_size,
+    has_wrong_span, has_wrong_top,
+};
+
+/// Whether a descriptor breaks a rule, among those before it and after it in a row.
+fn breaks(
+    limits: EpLimits,
+    rule: Rule,
+    row: &[Descriptor],
+    before: &[Descriptor],
+    d: &Descriptor,
+    after: &[Descriptor],
+) -> bool
+    ensures { result ≡ breaks limits rule row.now before.now d.now after.now }
+{
+    match rule {
+        Rule::Sizes => has_wrong_size(d),
+        Rule::Numbers => has_wrong_number(before, d),
+        Rule::Counts => has_wrong_count(before, d, after),
+        Rule::Addresses => has_wrong_address(before, d),
+        Rule::Packets => has_wrong_packets(d),
+        Rule::Tops => has_wrong_top(limits, d),
+        Rule::Spans => has_wrong_span(row, d),
+        Rule::Serial => has_wrong_serial(row, before, d, after),
+        Rule::Hid => has_wrong_hid(before, d, after),
+        Rule::Reports => d.is_hid(),
+        Rule::Pairs => has_wrong_pair(before, d, after),
+    }
+}
+
+/// The place of the first descriptor that breaks a rule.
+pub fn first_broken(limits: EpLimits, rule: Rule, row: &[Descriptor]) -> Option<u16>
+    ensures { result ≡ first_broken limits rule row.now }
+{
+    for i in 0..row.len() {
+        if breaks(limits, rule, row, &row[..i], &row[i], &row[i + 1..]) {
+            return Some(row[i].at);
+        }
+    }
+    None
+}

@@ -1,0 +1,192 @@
+ghost use Rattle.std.specs.Prelude.{◌≡◌, ◌≤◌, length, find, filter};
+ghost use Rattle.usb_descriptor.specs.Kinds.{is_endpoint};
+ghost use Rattle.std.specs.List.{list_any};
+ghost use Rattle.std.specs.Option.{option_map};
+ghost use Rattle.usb_descriptor.specs.Set.{owner_of, kind_of, endpoint_of, interface_at, endpoints_in, interfaces_in, is_numbered, is_addressed, is_core, same_owner, belongs, interface_owner, endpoint_owner};
+
+use crate::descriptor::Descriptor;
+use crate::kinds::BULK;
+use arrayvec::ArrayVec;
+use usb_packet::Owner;
+
+/// The transfer type of an endpoint other than 0 (USB 2.0, 5.7 and 5.8).
+#[derive(Clone, Copy, Debug, PartialEq, Eq)]
+pub enum EpKind {
+    Bulk,
+    Interrupt,
+}
+
+/// An endpoint of a set.
+#[derive(Clone, Copy, Debug, PartialEq, Eq)]
+pub struct Endpoint {
+    /// Its address: IN in bit 7, the number in bits 3 to 0.
+    pub addr: u8,
+    pub kind: EpKind,
+    /// The most bytes of a packet, from 1 to 64.
+    pub size: u8,
+    /// Who serves it.
+    pub owner: Owner,
+}
+
+impl Default for Endpoint {
+    fn default() -> Endpoint {
+        Endpoint {
+            addr: 0,
+            kind: EpKind::Bulk,
+            size: 0,
+            owner: Owner::Core,
+        }
+    }
+}
+
+/// An interface of a set.
+#[derive(Clone, Copy)]
+pub struct Interface {
+    pub number: u8,
+    /// Who serves it.
+    pub owner: Owner,
+}
+
+impl Default for Interface {
+    fn default() -> Interface {
+        Interface {
+            number: 0,
+            owner: Owner::Core,
+        }
+    }
+}
+
+/// Who has an interface or an endpoint of a row: the class that drives its group. No class is driven yet,
+/// so the core has each.
+#[allow(unused_variables)]
+fn owner_of(row: &[Descriptor], d: &Descriptor) -> Owner
+    ensures { result ≡ owner_of row.now d.now }
+{
+    Owner::Core
+}
+
+fn kind_of(transfer: u8) -> EpKind
+    ensures { result ≡ kind_of transfer }
+{
+    if transfer == BULK {
+        EpKind::Bulk
+    } else {
+        EpKind::Interrupt
+    }
+}
+
+fn endpoint_of(row: &[Descriptor], d: &Descriptor) -> Endpoint
+    ensures { result ≡ endpoint_of row.now d.now }
+{
+    Endpoint {
+        addr: d.head[2],
+        kind: kind_of(d.transfer()),
+        size: d.head[4],
+        owner: owner_of(row, d),
+    }
+}
+
+fn interface_at(row: &[Descriptor], d: &Descriptor) -> Interface
+    ensures { result ≡ interface_at row.now d.now }
+{
+    Interface {
+        number: d.head[2],
+        owner: owner_of(row, d),
+    }
+}
+
+/// The endpoints of a row that has at most thirty.
+pub fn endpoints_in(row: &[Descriptor]) -> ArrayVec<Endpoint, 30>
+    requires { length (filter is_endpoint row.now) ≤ 30 }
+    ensures { result.items ≡ endpoints_in row.now }
+{
+    let mut endpoints = ArrayVec::new();
+    for d in row {
+        if d.is_endpoint() {
+            endpoints.push(endpoint_of(row, d));
+        }
+    }
+    endpoints
+}
+
+/// The interfaces of a row.
+pub fn interfaces_in(row: &[Descriptor]) -> ArrayVec<Interface, 251>
+    requires { length row.now ≤ 251 }
+    ensures { result.items ≡ interfaces_in row.now }
+{
+    let mut interfaces = ArrayVec::new();
+    for d in row {
+        if d.is_interface() {
+            interfaces.push(interface_at(row, d));
+        }
+    }
+    interfaces
+}
+
+/// Whether an interface has a number.
+pub fn any_numbered(interfaces: &[Interface], number: u8) -> bool
+    ensures { result ≡ list_any (is_numbered number) interfaces.now }
+{
+    interfaces.iter().any(|i| i.number == number)
+}
+
+/// The owner of the interface with a number; the core's where there is none.
+pub fn interface_owner(interfaces: &[Interface], number: u8) -> Owner
+    ensures { result ≡ interface_owner (find (is_numbered number) interfaces.now) }
+{
+    for i in interfaces {
+        if i.number == number {
+            return i.owner;
+        }
+    }
+    Owner::Core
+}
+
+/// The owner of the endpoint at an address; the core's where there is none.
+pub fn endpoint_owner(endpoints: &[Endpoint], addr: u8) -> Owner
+    ensures { result ≡ endpoint_owner (find (is_addressed addr) endpoints.now) }
+{
+    for e in endpoints {
+        if e.addr == addr {
+            return e.owner;
+        }
+    }
+    Owner::Core
+}
+
+/// Whether an owner is the core, which is no class.
+pub fn is_core(owner: Owner) -> bool
+    ensures { result ≡ is_core owner }
+{
+    match owner {
+        Owner::Core => true,
+    }
+}
+
+/// Whether two owners are the same.
+fn same_owner(a: Owner, b: Owner) -> bool
+    ensures { result ≡ same_owner a b }
+{
+    match (a, b) {
+        (Owner::Core, Owner::Core) => true,
+    }
+}
+
+/// Whether an interface belongs to an owner.
+pub fn any_belongs(interfaces: &[Interface], owner: Owner) -> bool
+    ensures { result ≡ list_any (belongs owner) interfaces.now }
+{
+    interfaces.iter().any(|i| same_owner(i.owner, owner))
+}
+
+/// The number of the first interface that belongs to an owner.
+pub fn first_of(interfaces: &[Interface], owner: Owner) -> Option<u8>
+    ensures { result ≡ option_map (λ i. i.number) (find (belongs owner) interfaces.now) }
+{
+    for i in interfaces {
+        if same_owner(i.owner, owner) {
+            return Some(i.number);
+        }
+    }
+    None
+}
