@@ -3,12 +3,12 @@ use Rattle.std.proofs.Common.{◌≡◌, ℕ, ◌+◌, ◌<◌, List, Bool, true
 use Rattle.std.specs.Prelude.{is_some}
 use Rattle.std.specs.Option.{option_map}
 use Rattle.std.proofs.lemmas.List.{drop_more}
-use Rattle.usb_descriptor.specs.declared.descriptor.Descriptor.{Descriptor}
+use Rattle.descriptor_row.specs.declared.descriptor.Descriptor.{Descriptor}
 use Rattle.usb_descriptor.specs.declared.limits.EpLimits.{EpLimits}
 use Rattle.usb_descriptor.specs.declared.limits.SetFault.{SetFault}
 use Rattle.usb_descriptor.specs.declared.rule.Rule.{Rule}
-use Rattle.usb_descriptor.specs.Row.{row_of, row_end}
-use Rattle.usb_descriptor.specs.Kinds.{left_of}
+use Rattle.descriptor_row.specs.Row.{row_of, row_end}
+use Rattle.descriptor_row.specs.Kinds.{left_of}
 use Rattle.usb_descriptor.specs.Verdict.{earlier, device_fault, config_fault, row_fault, rule_fault, rules, first_fault, verdict}
 
 earlier_none : (x later : Option SetFault) → is_some x ≡ false → earlier x later ≡ later

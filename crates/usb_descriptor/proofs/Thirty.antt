@@ -9,13 +9,13 @@ use Rattle.std.proofs.lemmas.List.{map-append, length-map, drop_more}
 use Rattle.std.proofs.lemmas.List.Elements.{filter-append}
 use Rattle.std.proofs.lemmas.Map.Keys.{IsDistinct-push}
 use Rattle.std.proofs.lemmas.Map.Made.{length-le_from_is_member}
-use Rattle.usb_descriptor.specs.declared.descriptor.Descriptor.{Descriptor}
+use Rattle.descriptor_row.specs.declared.descriptor.Descriptor.{Descriptor}
 use Rattle.usb_descriptor.specs.declared.limits.EpLimits.{EpLimits}
 use Rattle.usb_descriptor.specs.declared.limits.SetFault.{SetFault}
 use Rattle.usb_descriptor.specs.declared.rule.Rule.{Rule}
 use Rattle.usb_descriptor.specs.declared.rule.Rule.TheVariants as rule
-use Rattle.usb_descriptor.specs.Row.{byte_at, begins_at, row_from, row_of}
-use Rattle.usb_descriptor.specs.Kinds.{is_endpoint, address, transfer, bulk, setting_at, left_after, left_of}
+use Rattle.descriptor_row.specs.Row.{byte_at, begins_at, row_from, row_of}
+use Rattle.descriptor_row.specs.Kinds.{is_endpoint, address, transfer, bulk, setting_at, left_after, left_of}
 use Rattle.usb_descriptor.specs.declared.endpoint.Endpoint.{Endpoint}
 use Rattle.usb_descriptor.specs.Set.{endpoint_of, endpoints_in}
 use Rattle.usb_descriptor.specs.Rules.{is_endpoint_at, has_wrong_address, breaks, first_from, first_broken}

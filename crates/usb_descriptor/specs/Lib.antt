@@ -1,5 +1,3 @@
-pub mod Row
-pub mod Kinds
 pub mod Rules
 pub mod Verdict
 pub mod Set

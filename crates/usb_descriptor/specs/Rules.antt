@@ -3,12 +3,12 @@
 -- A code of a class, a subclass, a protocol or a descriptor type is written as the number that it is.
 use Rattle.std.specs.Prelude.{ℕ, ◌+◌, ◌/◌, ◌%◌, List, [], ◌∷◌, ◌++◌, Bool, false, not, ◌==◌, ◌&&◌, ◌||◌, nat_lt, nat_le, Option, Some, None, if◌then◌else◌, count_by, position, find}
 use Rattle.std.specs.List.{list_any}
-use Rattle.usb_descriptor.specs.declared.descriptor.Descriptor.{Descriptor}
+use Rattle.descriptor_row.specs.declared.descriptor.Descriptor.{Descriptor}
 use Rattle.usb_descriptor.specs.declared.limits.EpLimits.{EpLimits}
 use Rattle.usb_descriptor.specs.declared.rule.Rule.{Rule}
 use Rattle.usb_descriptor.specs.declared.rule.Rule.TheVariants as rule
-use Rattle.usb_descriptor.specs.Row.{byte, size, kind, word}
-use Rattle.usb_descriptor.specs.Kinds.{is_interface, is_endpoint, is_association, number, claimed, is_of_class, is_of_subclass, is_of_protocol, address, is_in, endpoint_number, transfer, bulk, interrupt, is_in_of, is_out_of, following, following_place}
+use Rattle.descriptor_row.specs.Row.{byte, size, kind, word}
+use Rattle.descriptor_row.specs.Kinds.{is_interface, is_endpoint, is_association, number, claimed, is_of_class, is_of_subclass, is_of_protocol, address, is_in, endpoint_number, transfer, bulk, interrupt, is_in_of, is_out_of, following, following_place}
 
 -- the eighth: an interface has 9 bytes (USB 2.0, 9.6.5), an endpoint 7 (9.6.6), or 9 as the audio class
 -- writes it, an association 8

@@ -4,15 +4,15 @@ use Rattle.std.specs.List.{list_any}
 use Rattle.std.specs.Option.{option_map}
 use Rattle.usb_packet.specs.declared.bus.Owner.{Owner}
 use Rattle.usb_packet.specs.declared.bus.Owner.TheVariants.{Core}
-use Rattle.usb_descriptor.specs.declared.descriptor.Descriptor.{Descriptor}
+use Rattle.descriptor_row.specs.declared.descriptor.Descriptor.{Descriptor}
 use Rattle.usb_descriptor.specs.declared.endpoint.EpKind.{EpKind}
 use Rattle.usb_descriptor.specs.declared.endpoint.EpKind.TheVariants.{Bulk, Interrupt}
 use Rattle.usb_descriptor.specs.declared.endpoint.Endpoint.{Endpoint}
 use Rattle.usb_descriptor.specs.declared.endpoint.Interface.{Interface}
 use Rattle.usb_descriptor.specs.declared.strings.StringDescriptor.{StringDescriptor}
 use Rattle.usb_descriptor.specs.declared.limits.EpLimits.{EpLimits}
-use Rattle.usb_descriptor.specs.Row.{byte, row_of}
-use Rattle.usb_descriptor.specs.Kinds.{is_interface, is_endpoint, number, address, transfer, bulk, left_of}
+use Rattle.descriptor_row.specs.Row.{byte, row_of}
+use Rattle.descriptor_row.specs.Kinds.{is_interface, is_endpoint, number, address, transfer, bulk, left_of}
 use Rattle.usb_descriptor.specs.Verdict.{verdict}
 
 -- a set, by the descriptors that a host can ask for

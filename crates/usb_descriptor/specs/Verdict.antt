@@ -1,12 +1,12 @@
 -- The eighteen rules in their order, and the first that a set breaks.
 use Rattle.std.specs.Prelude.{ℕ, ◌+◌, ◌*◌, List, [], ◌∷◌, Bool, not, ◌==◌, ◌&&◌, ◌||◌, nat_le, length, slice_index, Option, Some, None, is_some, if◌then◌else◌, count_by}
-use Rattle.usb_descriptor.specs.declared.descriptor.Descriptor.{Descriptor}
+use Rattle.descriptor_row.specs.declared.descriptor.Descriptor.{Descriptor}
 use Rattle.usb_descriptor.specs.declared.limits.EpLimits.{EpLimits}
 use Rattle.usb_descriptor.specs.declared.limits.SetFault.{SetFault}
 use Rattle.usb_descriptor.specs.declared.rule.Rule.{Rule}
 use Rattle.usb_descriptor.specs.declared.rule.Rule.TheVariants as rule
-use Rattle.usb_descriptor.specs.Row.{row_of, row_end}
-use Rattle.usb_descriptor.specs.Kinds.{is_interface, left_of}
+use Rattle.descriptor_row.specs.Row.{row_of, row_end}
+use Rattle.descriptor_row.specs.Kinds.{is_interface, left_of}
 use Rattle.usb_descriptor.specs.Rules.{first_broken}
 
 -- the fault of a rule that is broken as a whole, with the place 0; of one that a descriptor breaks, with its place

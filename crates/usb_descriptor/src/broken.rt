@@ -1,13 +1,13 @@
 ghost use Rattle.std.specs.Prelude.{◌≡◌, ◌<◌, ◌≤◌, ◌+◌, [], take, drop, length};
 ghost use Rattle.usb_descriptor.specs.Rules.{breaks, first_broken};
 
-use crate::descriptor::Descriptor;
-use crate::group::{has_wrong_hid, has_wrong_pair, has_wrong_serial};
+use crate::group::{has_wrong_hid, has_wrong_pair, has_wrong_serial, is_hid};
 use crate::limits::EpLimits;
 use crate::rule::{
     Rule, has_wrong_address, has_wrong_count, has_wrong_number, has_wrong_packets, has_wrong_size,
     has_wrong_span, has_wrong_top,
 };
+use descriptor_row::Descriptor;
 
 /// Whether a descriptor breaks a rule, among those before it and after it in a row.
 fn breaks(
@@ -30,7 +30,7 @@ fn breaks(
         Rule::Spans => has_wrong_span(row, d),
         Rule::Serial => has_wrong_serial(row, before, d, after),
         Rule::Hid => has_wrong_hid(before, d, after),
-        Rule::Reports => d.is_hid(),
+        Rule::Reports => is_hid(d),
         Rule::Pairs => has_wrong_pair(before, d, after),
     }
 }

@@ -1,12 +1,11 @@
 ghost use Rattle.std.specs.Prelude.{◌≡◌, ◌≤◌, length, find, filter};
-ghost use Rattle.usb_descriptor.specs.Kinds.{is_endpoint};
+ghost use Rattle.descriptor_row.specs.Kinds.{is_endpoint};
 ghost use Rattle.std.specs.List.{list_any};
 ghost use Rattle.std.specs.Option.{option_map};
 ghost use Rattle.usb_descriptor.specs.Set.{owner_of, kind_of, endpoint_of, interface_at, endpoints_in, interfaces_in, is_numbered, is_addressed, is_core, same_owner, belongs, interface_owner, endpoint_owner};
 
-use crate::descriptor::Descriptor;
-use crate::kinds::BULK;
 use arrayvec::ArrayVec;
+use descriptor_row::{BULK, Descriptor};
 use usb_packet::Owner;
 
 /// The transfer type of an endpoint other than 0 (USB 2.0, 5.7 and 5.8).

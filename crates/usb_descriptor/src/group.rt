@@ -1,60 +1,53 @@
 ghost use Rattle.std.specs.Prelude.{◌≡◌, ◌<◌, ◌≤◌, ◌+◌, length, position, find};
 ghost use Rattle.std.specs.List.{list_any};
-ghost use Rattle.usb_descriptor.specs.Kinds.{following_place};
+ghost use Rattle.descriptor_row.specs.Kinds.{following_place};
 ghost use Rattle.usb_descriptor.specs.Rules.{is_bulk_pair, is_serial, is_data, is_union, has_data_pair, is_serial_group, has_wrong_serial, is_hid, is_hid_descriptor, is_hid_group, has_wrong_hid, is_storage, is_midi, has_wrong_pair};
 
-use crate::descriptor::Descriptor;
-use crate::kinds::{BULK, INTERRUPT, following};
 use crate::rule::{endpoints, ins_of, outs_of};
+use descriptor_row::{BULK, Descriptor, INTERRUPT, following};
 
-impl Descriptor {
-    /// Whether this is a serial port's communications interface: class 02, subclass 02 (CDC 1.2, 4.2 and 4.3).
-    pub fn is_serial(&self) -> bool
-        ensures { result ≡ is_serial self.now }
-    {
-        self.is_of_subclass(2, 2)
-    }
+/// Whether this is a serial port's communications interface: class 02, subclass 02 (CDC 1.2, 4.2 and 4.3).
+fn is_serial(d: &Descriptor) -> bool
+    ensures { result ≡ is_serial d.now }
+{
+    d.is_of_subclass(2, 2)
+}
 
-    /// Whether this is the data interface, class 0a, with this number (CDC 1.2, 4.5).
-    pub fn is_data(&self, number: u8) -> bool
-        ensures { result ≡ is_data number self.now }
-    {
-        self.is_of_class(10) && self.head[2] == number
-    }
+/// Whether this is the data interface, class 0a, with this number (CDC 1.2, 4.5).
+fn is_data(d: &Descriptor, number: u8) -> bool
+    ensures { result ≡ is_data number d.now }
+{
+    d.is_of_class(10) && d.head[2] == number
+}
 
-    /// Whether this is a HID interface: class 03 (HID 1.11, 4.1).
-    pub fn is_hid(&self) -> bool
-        ensures { result ≡ is_hid self.now }
-    {
-        self.is_of_class(3)
-    }
+/// Whether this is a HID interface: class 03 (HID 1.11, 4.1).
+pub fn is_hid(d: &Descriptor) -> bool
+    ensures { result ≡ is_hid d.now }
+{
+    d.is_of_class(3)
+}
 
-    /// Whether this is a HID descriptor, type 21, of a report descriptor, type 22, with 1 to 512 bytes
-    /// (HID 1.11, 6.2.1).
-    pub fn is_hid_descriptor(&self) -> bool
-        ensures { result ≡ is_hid_descriptor self.now }
-    {
-        let bytes = self.word(7);
-        self.head[1] == 0x21
-            && self.head[0] >= 9
-            && self.head[6] == 0x22
-            && bytes >= 1
-            && bytes <= 512
-    }
+/// Whether this is a HID descriptor, type 21, of a report descriptor, type 22, with 1 to 512 bytes
+/// (HID 1.11, 6.2.1).
+fn is_hid_descriptor(d: &Descriptor) -> bool
+    ensures { result ≡ is_hid_descriptor d.now }
+{
+    let bytes = d.word(7);
+    d.head[1] == 0x21 && d.head[0] >= 9 && d.head[6] == 0x22 && bytes >= 1 && bytes <= 512
+}
 
-    /// Whether this is mass storage: class 08, subclass 06, protocol 50 (Bulk-Only 1.0, 4.3).
-    pub fn is_storage(&self) -> bool
-        ensures { result ≡ is_storage self.now }
-    {
-        self.is_of_protocol(8, 6, 0x50)
-    }
+/// Whether this is mass storage: class 08, subclass 06, protocol 50 (Bulk-Only 1.0, 4.3).
+fn is_storage(d: &Descriptor) -> bool
+    ensures { result ≡ is_storage d.now }
+{
+    d.is_of_protocol(8, 6, 0x50)
+}
 
-    /// Whether this is MIDI streaming: class 01, subclass 03 (USB MIDI 1.0, 6.1.1).
-    pub fn is_midi(&self) -> bool
-        ensures { result ≡ is_midi self.now }
-    {
-        self.is_of_subclass(1, 3)
-    }
+/// Whether this is MIDI streaming: class 01, subclass 03 (USB MIDI 1.0, 6.1.1).
+fn is_midi(d: &Descriptor) -> bool
+    ensures { result ≡ is_midi d.now }
+{
+    d.is_of_subclass(1, 3)
 }
 
 /// Whether there are one bulk IN and one bulk OUT endpoint, and no other.
@@ -68,14 +61,14 @@ fn is_bulk_pair(after: &[Descriptor]) -> bool
 fn data_place(row: &[Descriptor], number: u8) -> Option<usize>
     ensures { result ≡ position (is_data number) row.now }
 {
-    row.iter().position(|d| d.is_data(number))
+    row.iter().position(|d| is_data(d, number))
 }
 
 /// Whether there is a data interface with a number.
 fn any_data(row: &[Descriptor], number: u8) -> bool
     ensures { result ≡ list_any (is_data number) row.now }
 {
-    row.iter().any(|d| d.is_data(number))
+    row.iter().any(|d| is_data(d, number))
 }
 
 /// Whether this is a union descriptor, type 24 and subtype 06, of this controlling interface and of a data
@@ -135,7 +128,7 @@ fn is_serial_group(row: &[Descriptor], d: &Descriptor, after: &[Descriptor]) -> 
 fn any_serial(row: &[Descriptor]) -> bool
     ensures { result ≡ list_any is_serial row.now }
 {
-    row.iter().any(|d| d.is_serial())
+    row.iter().any(|d| is_serial(d))
 }
 
 /// The first serial interface has its whole group.
@@ -147,14 +140,14 @@ pub fn has_wrong_serial(
 ) -> bool
     ensures { result ≡ has_wrong_serial row.now before.now d.now after.now }
 {
-    d.is_serial() && !any_serial(before) && !is_serial_group(row, d, following(after))
+    is_serial(d) && !any_serial(before) && !is_serial_group(row, d, following(after))
 }
 
 /// Whether there is a HID descriptor of a report descriptor.
 fn any_hid_descriptor(row: &[Descriptor]) -> bool
     ensures { result ≡ list_any is_hid_descriptor row.now }
 {
-    row.iter().any(|d| d.is_hid_descriptor())
+    row.iter().any(|d| is_hid_descriptor(d))
 }
 
 /// Whether a HID interface has its descriptor, one interrupt IN endpoint, at most one interrupt OUT, and no
@@ -173,34 +166,34 @@ fn is_hid_group(after: &[Descriptor]) -> bool
 fn any_hid(row: &[Descriptor]) -> bool
     ensures { result ≡ list_any is_hid row.now }
 {
-    row.iter().any(|d| d.is_hid())
+    row.iter().any(|d| is_hid(d))
 }
 
 /// The first HID interface has its whole group.
 pub fn has_wrong_hid(before: &[Descriptor], d: &Descriptor, after: &[Descriptor]) -> bool
     ensures { result ≡ has_wrong_hid before.now d.now after.now }
 {
-    d.is_hid() && !any_hid(before) && !is_hid_group(following(after))
+    is_hid(d) && !any_hid(before) && !is_hid_group(following(after))
 }
 
 /// Whether there is mass storage.
 fn any_storage(row: &[Descriptor]) -> bool
     ensures { result ≡ list_any is_storage row.now }
 {
-    row.iter().any(|d| d.is_storage())
+    row.iter().any(|d| is_storage(d))
 }
 
 /// Whether there is MIDI streaming.
 fn any_midi(row: &[Descriptor]) -> bool
     ensures { result ≡ list_any is_midi row.now }
 {
-    row.iter().any(|d| d.is_midi())
+    row.iter().any(|d| is_midi(d))
 }
 
 /// The first mass storage and the first MIDI streaming interface have each a bulk pair.
 pub fn has_wrong_pair(before: &[Descriptor], d: &Descriptor, after: &[Descriptor]) -> bool
     ensures { result ≡ has_wrong_pair before.now d.now after.now }
 {
-    let first = d.is_storage() && !any_storage(before) || d.is_midi() && !any_midi(before);
+    let first = is_storage(d) && !any_storage(before) || is_midi(d) && !any_midi(before);
     first && !is_bulk_pair(following(after))
 }

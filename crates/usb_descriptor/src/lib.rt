@@ -3,13 +3,9 @@
 #![tactic(auto)]
 
 mod broken;
-mod descriptor;
 mod endpoint;
 mod group;
-mod kinds;
-mod left;
 mod limits;
-mod row;
 mod rule;
 mod set;
 mod strings;

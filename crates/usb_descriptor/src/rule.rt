@@ -1,12 +1,11 @@
 ghost use Rattle.std.specs.Prelude.{◌≡◌, ◌<◌, ◌≤◌, ◌+◌, [], length, count_by, position, find, take, drop};
 ghost use Rattle.std.specs.List.{list_any};
 ghost use Rattle.std.specs.Option.{option_map};
-ghost use Rattle.usb_descriptor.specs.Kinds.{is_interface, is_endpoint, is_in_of, is_out_of, following, following_place};
+ghost use Rattle.descriptor_row.specs.Kinds.{is_interface, is_endpoint, is_in_of, is_out_of, following, following_place};
 ghost use Rattle.usb_descriptor.specs.Rules.{breaks, first_broken, has_wrong_size, has_wrong_number, has_wrong_count, is_endpoint_at, has_wrong_address, has_wrong_packets, has_wrong_top, has_wrong_span, is_bulk_pair, is_serial, is_data, is_union, has_data_pair, is_serial_group, has_wrong_serial, is_hid, is_hid_descriptor, is_hid_group, has_wrong_hid, is_storage, is_midi, has_wrong_pair};
 
-use crate::descriptor::Descriptor;
-use crate::kinds::{BULK, INTERRUPT, following};
 use crate::limits::EpLimits;
+use descriptor_row::{BULK, Descriptor, INTERRUPT, following};
 
 /// The rules on the descriptors of a row, in their order: the eighth to the eighteenth.
 #[derive(Clone, Copy)]

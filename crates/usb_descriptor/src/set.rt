@@ -10,12 +10,11 @@ use crate::endpoint::{
     Endpoint, Interface, any_belongs, any_numbered, endpoint_owner, endpoints_in, first_of,
     interface_owner, interfaces_in, is_core,
 };
-use crate::left::left_of;
 use crate::limits::{EpLimits, SetFault};
-use crate::row::read_row;
 use crate::strings::{StringDescriptor, StringPart, descriptors_of, string_of};
 use crate::verdict::verdict;
 use arrayvec::ArrayVec;
+use descriptor_row::{left_of, read_row};
 use std::marker::Model;
 use usb_packet::Owner;
 

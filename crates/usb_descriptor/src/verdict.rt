@@ -1,14 +1,12 @@
 ghost use Rattle.std.specs.Prelude.{◌≡◌, ◌<◌, ◌≤◌, ◌+◌, length, filter, IfNone, slice_index};
 ghost use Rattle.usb_descriptor.specs.Verdict.{fault_if, fault_at, device_fault, word_at, config_fault, row_fault, rule_fault, rules, first_fault, verdict};
-ghost use Rattle.usb_descriptor.specs.Row.{row_of, row_end};
-ghost use Rattle.usb_descriptor.specs.Kinds.{is_endpoint, left_of};
+ghost use Rattle.descriptor_row.specs.Row.{row_of, row_end};
+ghost use Rattle.descriptor_row.specs.Kinds.{is_endpoint, left_of};
 
 use crate::broken::first_broken;
-use crate::descriptor::Descriptor;
-use crate::left::left_of;
 use crate::limits::{EpLimits, SetFault};
-use crate::row::read_row;
 use crate::rule::{Rule, interfaces};
+use descriptor_row::{Descriptor, left_of, read_row};
 
 /// The rules from the eighth on, in their order.
 const RULES: [Rule; 11] = [

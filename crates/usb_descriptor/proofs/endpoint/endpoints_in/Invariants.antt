@@ -1,6 +1,6 @@
 use Rattle.std.proofs.Common.{◌≡◌, ◌++◌, drop, map}
 use Rattle.std.specs.Prelude.{filter}
-use Rattle.usb_descriptor.specs.Kinds.{is_endpoint}
+use Rattle.descriptor_row.specs.Kinds.{is_endpoint}
 use Rattle.usb_descriptor.specs.Set.{endpoint_of, endpoints_in}
 use Rattle.usb_descriptor.proofs.endpoint.endpoints_in.Given as goal
 

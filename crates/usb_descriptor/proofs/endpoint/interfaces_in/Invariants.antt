@@ -1,6 +1,6 @@
 use Rattle.std.proofs.Common.{◌≡◌, ◌≤◌, ◌++◌, length, drop, map}
 use Rattle.std.specs.Prelude.{filter}
-use Rattle.usb_descriptor.specs.Kinds.{is_interface}
+use Rattle.descriptor_row.specs.Kinds.{is_interface}
 use Rattle.usb_descriptor.specs.Set.{interface_at, interfaces_in}
 use Rattle.usb_descriptor.proofs.endpoint.interfaces_in.Given as goal
 

@@ -1,6 +1,6 @@
 use Rattle.std.proofs.Common.{get_or, ◌≡◌, sym, ◌∙◌}
-use Rattle.usb_descriptor.specs.Row.{row_of}
-use Rattle.usb_descriptor.specs.Kinds.{left_of}
+use Rattle.descriptor_row.specs.Row.{row_of}
+use Rattle.descriptor_row.specs.Kinds.{left_of}
 use Rattle.usb_descriptor.proofs.Faults.{verdict_rest}
 use Rattle.usb_descriptor.proofs.Thirty.{few_endpoints}
 use Rattle.usb_descriptor.proofs.verdict.verdict.Goals as goal

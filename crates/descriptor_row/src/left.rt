@@ -1,5 +1,5 @@
 ghost use Rattle.std.specs.Prelude.{◌≡◌, ◌<◌, ◌≤◌, length};
-ghost use Rattle.usb_descriptor.specs.Kinds.{setting_at, left_of};
+ghost use Rattle.descriptor_row.specs.Kinds.{setting_at, left_of};
 
 use crate::descriptor::Descriptor;
 use arrayvec::ArrayVec;

@@ -1,6 +1,6 @@
 ghost use Rattle.std.specs.Prelude.{◌≡◌, ◌<◌, ◌≤◌, length, position, IfSome};
-ghost use Rattle.usb_descriptor.specs.Row.{size, kind, word};
-ghost use Rattle.usb_descriptor.specs.Kinds.{is_interface, is_endpoint, is_association, is_of_class, is_of_subclass, is_of_protocol, address, is_in, endpoint_number, transfer, is_in_of, is_out_of, following, left_of};
+ghost use Rattle.descriptor_row.specs.Row.{size, kind, word};
+ghost use Rattle.descriptor_row.specs.Kinds.{is_interface, is_endpoint, is_association, is_of_class, is_of_subclass, is_of_protocol, address, is_in, endpoint_number, transfer, is_in_of, is_out_of, following, left_of};
 
 use crate::descriptor::Descriptor;
 

@@ -1,5 +1,5 @@
 ghost use Rattle.std.specs.Prelude.{◌≡◌, ℕ, List, ◌+◌, ◌*◌, ◌<◌, ◌≤◌, length};
-ghost use Rattle.usb_descriptor.specs.Row.{row_of, row_end};
+ghost use Rattle.descriptor_row.specs.Row.{row_of, row_end};
 
 use crate::descriptor::{Descriptor, begins_at, descriptor_at};
 use arrayvec::ArrayVec;

@@ -3,8 +3,8 @@ use Rattle.std.proofs.Common.{◌≡◌, ℕ, zero, suc, ◌+◌, ◌-◌, ◌<�
 use Rattle.std.proofs.lemmas.Bool.Decides.{nat_tests}
 use Rattle.std.proofs.lemmas.List.Sums.{sum_by_push}
 use Rattle.std.specs.Prelude.{sum_by}
-use Rattle.usb_descriptor.specs.declared.descriptor.Descriptor.{Descriptor}
-use Rattle.usb_descriptor.specs.Row.{size, descriptor_at, begins_at, row_from, row_of}
+use Rattle.descriptor_row.specs.declared.descriptor.Descriptor.{Descriptor}
+use Rattle.descriptor_row.specs.Row.{size, descriptor_at, begins_at, row_from, row_of}
 
 pub size_at : (config : List ℕ) (at : ℕ) → begins_at config at ≡ true → size (descriptor_at config at) ≡ get_or config at 0
 size_at config at h = grind (arith, nat_tests)

@@ -1,6 +1,6 @@
 use Rattle.std.proofs.Common.{◌≡◌, ◌≤◌, ◌++◌, length, drop}
-use Rattle.usb_descriptor.specs.Kinds.{left_after, left_of}
-use Rattle.usb_descriptor.proofs.left.left_of.Given as goal
+use Rattle.descriptor_row.specs.Kinds.{left_after, left_of}
+use Rattle.descriptor_row.proofs.left.left_of.Given as goal
 
 -- what was left so far, and what is left of the rest, is what is left of the row
 abbrev pub invariant-loop-d : goal.invariant-loop-d

@@ -1,9 +1,9 @@
 use Rattle.std.proofs.Common.{◌≡◌, ◌+◌, ◌-◌, ◌++◌, ◌∷◌, [], true, false, length, get_or, sym, ap, ◌∙◌, arith, append-nil, length-append}
 use Rattle.std.proofs.lemmas.Bool.Decides.{nat_tests}
 use Rattle.std.specs.Prelude.{sum_by}
-use Rattle.usb_descriptor.specs.Row.{size, begins_at, descriptor_at}
-use Rattle.usb_descriptor.proofs.Rows.{row_more, row_stop, end_more}
-use Rattle.usb_descriptor.proofs.row.read_row.Goals as goal
+use Rattle.descriptor_row.specs.Row.{size, begins_at, descriptor_at}
+use Rattle.descriptor_row.proofs.Rows.{row_more, row_stop, end_more}
+use Rattle.descriptor_row.proofs.row.read_row.Goals as goal
 
 pub loop-row-preserved : goal.loop-row-preserved
 loop-row-preserved c =

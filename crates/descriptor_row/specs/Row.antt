@@ -1,6 +1,6 @@
 -- The descriptors of a configuration as a row: USB 2.0, 9.4.3 and 9.5. All lengths and places are in bytes.
 use Rattle.std.specs.Prelude.{ℕ, zero, suc, ◌+◌, ◌*◌, List, [], ◌∷◌, Bool, ◌&&◌, nat_lt, nat_le, length, slice_index, if◌then◌else◌, sum_by}
-use Rattle.usb_descriptor.specs.declared.descriptor.Descriptor.{Descriptor}
+use Rattle.descriptor_row.specs.declared.descriptor.Descriptor.{Descriptor}
 
 -- byte k of a descriptor, for k from 0 to 8; what it hasn't is 0
 abbrev pub byte : Descriptor → ℕ → ℕ

@@ -1,7 +1,7 @@
 -- What a descriptor is, and which stand together: USB 2.0, 9.5 and 9.6; the class documents for the codes.
 use Rattle.std.specs.Prelude.{ℕ, ◌+◌, ◌%◌, List, [], ◌∷◌, Bool, not, ◌==◌, ◌&&◌, nat_le, drop, take, Option, Some, None, if◌then◌else◌, position}
-use Rattle.usb_descriptor.specs.declared.descriptor.Descriptor.{Descriptor}
-use Rattle.usb_descriptor.specs.Row.{byte, kind}
+use Rattle.descriptor_row.specs.declared.descriptor.Descriptor.{Descriptor}
+use Rattle.descriptor_row.specs.Row.{byte, kind}
 
 -- INTERFACE (9.6.5), ENDPOINT (9.6.6) and INTERFACE_ASSOCIATION (the notice of that name)
 abbrev pub is_interface : Descriptor → Bool

@@ -1,5 +1,5 @@
 ghost use Rattle.std.specs.Prelude.{◌≡◌, ◌+◌, ◌<◌, ◌≤◌, ◌^◌, length, slice_index, IsTrue};
-ghost use Rattle.usb_descriptor.specs.Row.{byte_at, descriptor_at, begins_at};
+ghost use Rattle.descriptor_row.specs.Row.{byte_at, descriptor_at, begins_at};
 
 /// A descriptor of a configuration (USB 2.0, 9.5), by its first bytes. These hold every field that a
 /// set is judged by.

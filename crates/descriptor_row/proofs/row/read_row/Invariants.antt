@@ -1,7 +1,7 @@
 use Rattle.std.proofs.Common.{◌≡◌, ◌+◌, ◌*◌, ◌≤◌, ◌++◌, length, ◌-◌}
 use Rattle.std.specs.Prelude.{sum_by}
-use Rattle.usb_descriptor.specs.Row.{size, row_from, row_of}
-use Rattle.usb_descriptor.proofs.row.read_row.Given as goal
+use Rattle.descriptor_row.specs.Row.{size, row_from, row_of}
+use Rattle.descriptor_row.proofs.row.read_row.Given as goal
 
 -- the descriptors so far, and what is left from the place on, are the row
 abbrev pub invariant-loop-row : goal.invariant-loop-row
