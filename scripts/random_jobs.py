@@ -1,7 +1,8 @@
 #!/usr/bin/env python3
 """Runs random jobs on a built `usbrun` and compares each answer and status with a model of its own.
 
-The model is written from docs/MODEL.md and docs/FORMATS.md, and shares nothing with the crates.
+The model does what docs/MODEL.md and docs/FORMATS.md say, and uses no code of the crates. Its authors are theirs, so
+what both read wrongly stays unseen.
 
     random_jobs.py PROGRAM [JOBS [SEED]]
 
