@@ -1,5 +1,5 @@
 -- What an accepted set shows: its bytes, and its interfaces and endpoints with their owners.
-use Rattle.std.specs.Prelude.{◌≡◌, is_some, ℕ, List, Bool, true, ◌==◌, ◌||◌, Option, Some, None, if◌then◌else◌, map, filter, find}
+use Rattle.std.specs.Prelude.{◌≡◌, is_some, ℕ, List, Bool, true, ◌==◌, ◌&&◌, ◌||◌, position, Option, Some, None, if◌then◌else◌, map, filter, find}
 use Rattle.std.specs.List.{list_any}
 use Rattle.std.specs.Option.{option_map}
 use Rattle.usb_packet.specs.declared.bus.Owner.{Owner}
@@ -12,7 +12,7 @@ use Rattle.usb_descriptor.specs.declared.endpoint.Interface.{Interface}
 use Rattle.usb_descriptor.specs.declared.strings.StringDescriptor.{StringDescriptor}
 use Rattle.usb_descriptor.specs.declared.limits.EpLimits.{EpLimits}
 use Rattle.descriptor_row.specs.Row.{byte, row_of}
-use Rattle.descriptor_row.specs.Kinds.{is_interface, is_endpoint, number, address, transfer, bulk, left_of}
+use Rattle.descriptor_row.specs.Kinds.{is_interface, is_endpoint, number, address, transfer, bulk, following_place, left_of}
 use Rattle.usb_descriptor.specs.Verdict.{verdict}
 
 -- a set, by the descriptors that a host can ask for
@@ -61,6 +61,21 @@ is_numbered n i = i.number == n
 
 abbrev pub is_addressed : ℕ → Endpoint → Bool
 is_addressed a e = e.addr == a
+
+-- an interface of a number, and an endpoint at an address, in a row
+abbrev pub is_interface_of : ℕ → Descriptor → Bool
+is_interface_of n d = is_interface d && number d == n
+
+abbrev pub is_endpoint_at : ℕ → Descriptor → Bool
+is_endpoint_at a d = is_endpoint d && address d == a
+
+-- what follows the interface of a number, up to the next one; nothing where there is none
+abbrev pub interface_row : ℕ → List Descriptor → List Descriptor
+interface_row n row = following_place (position (is_interface_of n) row) row
+
+-- whether the interface of a number has an endpoint at an address
+abbrev pub has_endpoint : List ℕ → ℕ → ℕ → Bool
+has_endpoint config n a = list_any (is_endpoint_at a) (interface_row n (left_of (row_of config)))
 
 abbrev pub is_core : Owner → Bool
 is_core Core = true

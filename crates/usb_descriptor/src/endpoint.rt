@@ -2,7 +2,7 @@ ghost use Rattle.std.specs.Prelude.{◌≡◌, ◌≤◌, length, find, filter};
 ghost use Rattle.descriptor_row.specs.Kinds.{is_endpoint};
 ghost use Rattle.std.specs.List.{list_any};
 ghost use Rattle.std.specs.Option.{option_map};
-ghost use Rattle.usb_descriptor.specs.Set.{owner_of, kind_of, endpoint_of, interface_at, endpoints_in, interfaces_in, is_numbered, is_addressed, is_core, same_owner, belongs, interface_owner, endpoint_owner};
+ghost use Rattle.usb_descriptor.specs.Set.{owner_of, kind_of, endpoint_of, interface_at, endpoints_in, interfaces_in, is_endpoint_at, is_numbered, is_addressed, is_core, same_owner, belongs, interface_owner, endpoint_owner};
 
 use arrayvec::ArrayVec;
 use descriptor_row::{BULK, Descriptor};
@@ -151,6 +151,13 @@ pub fn endpoint_owner(endpoints: &[Endpoint], addr: u8) -> Owner
         }
     }
     Owner::Core
+}
+
+/// Whether a row has an endpoint at an address.
+pub fn any_addressed(row: &[Descriptor], addr: u8) -> bool
+    ensures { result ≡ list_any (is_endpoint_at addr) row.now }
+{
+    row.iter().any(|d| d.is_endpoint() && d.head[2] == addr)
 }
 
 /// Whether an owner is the core, which is no class.

@@ -1,6 +1,7 @@
 ghost use Rattle.std.specs.Prelude.{◌≡◌, ◌<◌, ◌≤◌, ◌+◌, length, position, find};
 ghost use Rattle.std.specs.List.{list_any};
 ghost use Rattle.descriptor_row.specs.Kinds.{following_place};
+ghost use Rattle.usb_descriptor.specs.Set.{is_interface_of, interface_row};
 ghost use Rattle.usb_descriptor.specs.Rules.{is_bulk_pair, is_serial, is_data, is_union, has_data_pair, is_serial_group, has_wrong_serial, is_hid, is_hid_descriptor, is_hid_group, has_wrong_hid, is_storage, is_midi, has_wrong_pair};
 
 use crate::rule::{endpoints, ins_of, outs_of};
@@ -103,6 +104,21 @@ fn following_place(place: Option<usize>, row: &[Descriptor]) -> &[Descriptor]
         Some(place) if place < row.len() => following(&row[place + 1..]),
         _ => &[],
     }
+}
+
+/// The place of the interface with a number.
+fn interface_place(row: &[Descriptor], number: u8) -> Option<usize>
+    ensures { result ≡ position (is_interface_of number) row.now }
+{
+    row.iter()
+        .position(|d| d.is_interface() && d.head[2] == number)
+}
+
+/// What follows the interface with a number, up to the next one; nothing where there is none.
+pub fn interface_row(row: &[Descriptor], number: u8) -> &[Descriptor]
+    ensures { result.now ≡ interface_row number row.now }
+{
+    following_place(interface_place(row, number), row)
 }
 
 /// Whether the data interface that a union descriptor names has a bulk pair.

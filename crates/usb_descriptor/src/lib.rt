@@ -11,7 +11,7 @@ mod set;
 mod strings;
 mod verdict;
 
-pub use endpoint::{Endpoint, EpKind};
+pub use endpoint::{Endpoint, EpKind, is_core};
 pub use limits::{EpLimits, SetFault};
 pub use set::{DescSet, SetParts, read_set};
 pub use strings::StringPart;

@@ -3,13 +3,14 @@ ghost use Rattle.std.specs.Option.{option_map};
 ghost use Rattle.std.specs.Prelude.{Some, None};
 ghost use Rattle.usb_descriptor.specs.Strings.{Ascend, string_descriptor, string_of};
 ghost use Rattle.usb_descriptor.specs.Verdict.{verdict};
-ghost use Rattle.usb_descriptor.specs.Set.{Set, IsAccepted, interfaces_of, endpoints_of, is_numbered, owner_of_interface, owner_of_endpoint, has_owner, first_interface_of};
+ghost use Rattle.usb_descriptor.specs.Set.{Set, IsAccepted, interfaces_of, endpoints_of, is_numbered, owner_of_interface, owner_of_endpoint, has_owner, has_endpoint, first_interface_of};
 ghost use Rattle.std.specs.List.{list_any};
 
 use crate::endpoint::{
-    Endpoint, Interface, any_belongs, any_numbered, endpoint_owner, endpoints_in, first_of,
-    interface_owner, interfaces_in, is_core,
+    Endpoint, Interface, any_addressed, any_belongs, any_numbered, endpoint_owner, endpoints_in,
+    first_of, interface_owner, interfaces_in, is_core,
 };
+use crate::group::interface_row;
 use crate::limits::{EpLimits, SetFault};
 use crate::strings::{StringDescriptor, StringPart, descriptors_of, string_of};
 use crate::verdict::verdict;
@@ -43,7 +44,7 @@ pub struct DescSet {
 }
 
 impl Model for DescSet {
-    ghost use Rattle.std.specs.Prelude.{◌≡◌};
+    ghost use Rattle.std.specs.Prelude.{◌≡◌, ◌≤◌, length};
     ghost use Rattle.std.specs.Option.{option_map};
     ghost use Rattle.usb_descriptor.specs.Set.{Set, interfaces_of, endpoints_of};
 
@@ -56,7 +57,7 @@ impl Model for DescSet {
       report = option_map (λ r. r.items) s.report;
     } };
 
-    ghost invariant = { λ s. (s.interfaces.items ≡ interfaces_of s.config.items) × (s.endpoints.items ≡ endpoints_of s.config.items) };
+    ghost invariant = { λ s. (9 ≤ length s.config.items) × (s.interfaces.items ≡ interfaces_of s.config.items) × (s.endpoints.items ≡ endpoints_of s.config.items) };
 }
 
 /// Reads a set. It is refused exactly where a rule is broken, and the fault names the lowest one.
@@ -113,14 +114,17 @@ fn report_of(report: Option<&[u8]>) -> Option<ArrayVec<u8, 512>>
 impl DescSet {
     /// The device descriptor.
     pub fn device(&self) -> &[u8]
-        ensures { result.now ≡ self.now.device }
+        ensures value { result.now ≡ self.now.device }
+        ensures size { length result.now ≤ 18 }
     {
         self.device.as_slice()
     }
 
     /// The configuration descriptor with all that comes with it.
     pub fn config(&self) -> &[u8]
-        ensures { result.now ≡ self.now.config }
+        ensures value { result.now ≡ self.now.config }
+        ensures low { 9 ≤ length result.now }
+        ensures high { length result.now ≤ 512 }
     {
         self.config.as_slice()
     }
@@ -128,7 +132,8 @@ impl DescSet {
     /// The descriptor of the string with an index. String 0 is there where another one is, and has the codes
     /// of the languages (USB 2.0, 9.6.7).
     pub fn string(&self, index: u8) -> Option<&[u8]>
-        ensures { option_map (λ s. s.now) result ≡ string_of self.now.strings index }
+        ensures value { option_map (λ s. s.now) result ≡ string_of self.now.strings index }
+        ensures size { IfSome result (λ s. length s.now ≤ 62) }
     {
         string_of(self.strings.as_slice(), index)
     }
@@ -177,6 +182,15 @@ impl DescSet {
         ensures { result ≡ list_any (is_numbered number) (interfaces_of self.now.config) }
     {
         any_numbered(self.interfaces.as_slice(), number)
+    }
+
+    /// Whether the interface with a number has an endpoint at an address.
+    pub fn has_endpoint(&self, number: u8, addr: u8) -> bool
+        ensures { result ≡ has_endpoint self.now.config number addr }
+    {
+        let (row, _) = read_row(self.config.as_slice());
+        let left = left_of(row.as_slice());
+        any_addressed(interface_row(left.as_slice(), number), addr)
     }
 
     /// The number of the first interface that a class drives. The core is no class.

@@ -1,11 +1,11 @@
-ghost use Rattle.std.specs.Prelude.{◌≡◌, ◌≤◌, ◌+◌, length, map};
+ghost use Rattle.std.specs.Prelude.{◌≡◌, ◌≤◌, ◌+◌, length, map, IfSome};
 ghost use Rattle.std.specs.Option.{option_map};
 ghost use Rattle.usb_descriptor.specs.Strings.{string_descriptor, string_of};
 
 use arrayvec::ArrayVec;
 
 /// A string of a set, by its index and its text in UTF-16LE.
-#[derive(Drop)]
+#[derive(Default, Drop)]
 pub struct StringPart {
     pub index: u8,
     pub body: ArrayVec<u8, 60>,
@@ -51,7 +51,8 @@ pub fn descriptors_of(parts: &[StringPart]) -> ArrayVec<StringDescriptor, 8>
 
 /// The descriptor of the string with an index.
 pub fn string_of(strings: &[StringDescriptor], index: u8) -> Option<&[u8]>
-    ensures { option_map (λ s. s.now) result ≡ string_of strings.now index }
+    ensures value { option_map (λ s. s.now) result ≡ string_of strings.now index }
+    ensures size { IfSome result (λ s. length s.now ≤ 62) }
 {
     if index == 0 {
         return if strings.is_empty() {

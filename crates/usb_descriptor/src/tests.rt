@@ -407,6 +407,12 @@ fn accepted(rt: HostRuntime) {
     }
     assert!(rt; set.has(Owner::Core));
     assert!(rt; set.is_interface(2) && !set.is_interface(3));
+    assert!(rt;
+        set.has_endpoint(0, 0x81) && set.has_endpoint(1, 0x82) && set.has_endpoint(2, 0x02)
+    );
+    assert!(rt;
+        !set.has_endpoint(0, 0x82) && !set.has_endpoint(1, 0x81) && !set.has_endpoint(3, 0x81)
+    );
     assert_eq!(rt; set.owner_of_interface(0), Owner::Core);
     assert_eq!(rt; set.owner_of_endpoint(0x81), Owner::Core);
     assert_eq!(rt; set.interface_of(Owner::Core), None);
