@@ -1,5 +1,8 @@
--- What the bus sees of a device: USB 2.0, 8.4 to 8.6 and 9.1.1. Only endpoint 0 is open.
-use Rattle.std.specs.Prelude.{ℕ, ◌∷◌, ◌++◌, List, [], Bool, true, false, ◌==◌, ◌&&◌, not, nat_lt, length, if◌then◌else◌, Option, Some, None}
+-- What the bus sees of a device: USB 2.0, 8.4 to 8.6 and 9.1.1. Only endpoint 0 moves packets: each other one that is
+-- open belongs to the core, which moves none.
+use Rattle.std.specs.Prelude.{ℕ, ◌+◌, ◌∷◌, ◌++◌, List, [], Bool, true, false, ◌==◌, ◌&&◌, ◌||◌, not, nat_lt, nat_le, length, if◌then◌else◌, Option, Some, None}
+use Rattle.std.specs.List.{list_any}
+use Rattle.usb_descriptor.specs.declared.endpoint.Endpoint.{Endpoint}
 use Rattle.usb_packet.specs.declared.bus.Toggle.{Toggle}
 use Rattle.usb_packet.specs.declared.bus.Toggle.TheVariants.{D0, D1}
 use Rattle.usb_packet.specs.declared.bus.BusEvent.{BusEvent}
@@ -18,6 +21,8 @@ pub record Bus : Type 0 where
   pub reset : Bool
   -- the device address (9.4.6)
   pub address : ℕ
+  -- the endpoints other than 0 that are open
+  pub endpoints : List Endpoint
   -- the acknowledged SETUPs that no handler run has served, the oldest first
   pub unserved : List (List ℕ)
   -- what endpoint 0 holds ready
@@ -29,7 +34,7 @@ pub record Bus : Type 0 where
 
 -- at the start, and what a reset leaves but for `awake`
 abbrev pub unconfigured : Bool → Bus
-unconfigured awake = record { awake = awake; reset = false; address = 0; unserved = []; side = Off; taken = false; toggle = D0 }
+unconfigured awake = record { awake = awake; reset = false; address = 0; endpoints = []; unserved = []; side = Off; taken = false; toggle = D0 }
 
 -- the most SETUPs that lie unserved
 abbrev pub most_setups : ℕ
@@ -51,12 +56,26 @@ hears bus addr = bus.awake && (addr == bus.address)
 abbrev pub hears_setup : Bus → ℕ → Bool → Bool
 hears_setup bus addr ok = hears bus addr && (ok && nat_lt (length bus.unserved) most_setups)
 
--- an undamaged packet on endpoint 0
-abbrev pub hears_out : Bus → ℕ → ℕ → Bool → Bool
-hears_out bus addr ep ok = hears bus addr && (ok && (ep == 0))
+-- whether an endpoint has packets of so many bytes from the host at a number; whether it has packets for the host.
+-- IN is bit 7 of bEndpointAddress, and wMaxPacketSize the most bytes (9.6.6)
+abbrev pub is_out_for : ℕ → ℕ → Endpoint → Bool
+is_out_for ep bytes e = nat_lt ep 128 && ((e.addr == ep) && nat_le bytes e.size)
+
+abbrev pub is_in_for : ℕ → Endpoint → Bool
+is_in_for ep e = e.addr == 128 + ep
+
+-- an undamaged packet on endpoint 0, or on one that is open and has packets of this length
+abbrev pub hears_out : Bus → ℕ → ℕ → List ℕ → Bool → Bool
+hears_out bus addr ep packet ok =
+    hears bus addr && (ok && ((ep == 0) || list_any (is_out_for ep (length packet)) bus.endpoints))
 
 abbrev pub hears_in : Bus → ℕ → ℕ → Bool
-hears_in bus addr ep = hears bus addr && (ep == 0)
+hears_in bus addr ep = hears bus addr && ((ep == 0) || list_any (is_in_for ep) bus.endpoints)
+
+-- whether endpoint 0 answers by what it holds: an endpoint of the core answers NAK, and so does endpoint 0 while a
+-- SETUP lies unserved
+abbrev pub serves : Bus → ℕ → Bool
+serves bus ep = (ep == 0) && is_empty bus.unserved
 
 -- the answer to an OUT packet, by what endpoint 0 holds and whether a packet was taken since the last SETUP.
 -- One that was taken comes again where its acknowledgement was lost (8.6.4): it is acknowledged and dropped.
@@ -88,12 +107,12 @@ abbrev pub bus_answer : Bus → BusEvent → BusAnswer
 bus_answer bus event.Reset = answers.Done
 bus_answer bus (event.Setup addr bytes ok) = if hears_setup bus addr ok then answers.Ack else answers.NoAnswer
 bus_answer bus (event.Out addr ep toggle packet ok) =
-    if hears_out bus addr ep ok
-    then (if is_empty bus.unserved then out_answer bus.side bus.taken toggle else answers.Nak)
+    if hears_out bus addr ep packet ok
+    then (if serves bus ep then out_answer bus.side bus.taken toggle else answers.Nak)
     else answers.NoAnswer
 bus_answer bus (event.In addr ep ok) =
     if hears_in bus addr ep
-    then (if is_empty bus.unserved then in_answer bus.side bus.toggle else answers.Nak)
+    then (if serves bus ep then in_answer bus.side bus.toggle else answers.Nak)
     else answers.NoAnswer
 
 -- what a SETUP leaves of what endpoint 0 held ready
@@ -142,9 +161,9 @@ abbrev pub bus_after : Bus → BusEvent → Bus
 bus_after bus event.Reset = record bus { awake = false; reset = true }
 bus_after bus (event.Setup addr bytes ok) = if hears_setup bus addr ok then after_setup bus bytes else bus
 bus_after bus (event.Out addr ep toggle packet ok) =
-    if hears_out bus addr ep ok && is_empty bus.unserved then after_out bus toggle packet else bus
+    if hears_out bus addr ep packet ok && serves bus ep then after_out bus toggle packet else bus
 bus_after bus (event.In addr ep ok) =
-    if hears_in bus addr ep && (ok && is_empty bus.unserved) then after_in bus bus.side else bus
+    if hears_in bus addr ep && (ok && serves bus ep) then after_in bus bus.side else bus
 
 -- the finished stage that a handler run finds
 abbrev pub finished_stage : Side → Option Stage

@@ -3,35 +3,55 @@
 use Rattle.std.specs.Prelude.{ℕ, zero, suc, List, [], ◌∷◌, Bool, true, false, if◌then◌else◌, Option, Some, None}
 use Rattle.usb_packet.specs.declared.bus.BusEvent.{BusEvent}
 use Rattle.usb_packet.specs.Setup.{fields_of}
+use Rattle.usb_pipe.specs.declared.decision.Decision.{Decision}
+use Rattle.usb_pipe.specs.declared.decision.Decision.TheVariants as decision
+use Rattle.usb_descriptor.specs.Set.{Set}
+use Rattle.usb_control.specs.declared.state.CoreState.{CoreState}
+use Rattle.usb_control.specs.declared.state.Effect.{Effect}
+use Rattle.usb_control.specs.declared.state.Effect.TheVariants as effect
+use Rattle.usb_control.specs.declared.state.Choice.{Choice}
+use Rattle.usb_control.specs.declared.state.Choice.TheVariants.{Own, Class}
+use Rattle.usb_control.specs.Table.{choice}
 use Rattle.device_machine.specs.declared.control.Stage.{Stage}
 use Rattle.device_machine.specs.declared.control.Stage.TheVariants.{Sent, Came}
 use Rattle.device_machine.specs.declared.control.Side.{Side}
 use Rattle.device_machine.specs.declared.control.Side.TheVariants.{Off, Wait, Stall}
 use Rattle.device_machine.specs.Bus.{Bus, unconfigured, is_empty, last_of, bus_after, finished_stage, without_stage, loaded}
-use Rattle.device_machine.specs.Request.{Decision, Gives, Refuses, decision, data_packets}
+use Rattle.device_machine.specs.Packets.{data_packets}
+use Rattle.device_machine.specs.Session.{halted_after, opened}
 
 -- the control transfer that runs: none; a data stage for the host, with the packets that follow the one
--- under way; a status stage for the host
+-- under way; a status stage for the host; that of SET_ADDRESS, with the address
 pub data Transfer : Type 0 where
   Idle : Transfer
   Sending : (packets : List (List ℕ)) → Transfer
   Ending : Transfer
+  Addressing : (address : ℕ) → Transfer
 
 pub record Core : Type 0 where
   pub bus : Bus
+  -- a session stands: the device is configured (9.4.7)
+  pub session : Bool
+  -- the addresses of the halted endpoints, ascending. The core's endpoints answer NAK all the same: GET_STATUS
+  -- alone tells it
+  pub halted : List ℕ
   -- the note of a stage that finished, which no task has taken
   pub finished : Option Stage
   -- the note of a SETUP that no task has taken
   pub request : Option (List ℕ)
   pub transfer : Transfer
 
--- a device whose endpoint 0 is empty, with no notes
+-- a device at address 0 whose endpoint 0 is empty, with no session and no notes
 abbrev pub emptied : Bool → Core
-emptied awake = record { bus = unconfigured awake; finished = None; request = None; transfer = Idle }
+emptied awake = record { bus = unconfigured awake; session = false; halted = []; finished = None; request = None; transfer = Idle }
 
 -- the device at the start
 abbrev pub start : Core
 start = emptied false
+
+-- what requests are decided by, and `state` tells
+abbrev pub state_of : Core → CoreState
+state_of core = record { addr = core.bus.address; configured = core.session; halted = record { items = core.halted } }
 
 -- a bus event changes the bus side alone
 abbrev pub after_bus : Core → BusEvent → Core
@@ -51,9 +71,25 @@ with_request core (Some bytes) = record core { bus = record core.bus { unserved 
 abbrev pub after_plain_irq : Core → Core
 after_plain_irq core = with_request (with_stage core (finished_stage core.bus.side)) (last_of core.bus.unserved)
 
+-- the address that a handler run sets: where it finds the status stage of SET_ADDRESS finished (9.4.6)
+abbrev pub new_address : Transfer → Option Stage → Option ℕ
+new_address (Addressing n) (Some stage) = Some n
+new_address (Addressing n) None = None
+new_address Idle stage = None
+new_address (Sending packets) stage = None
+new_address Ending stage = None
+
+abbrev pub with_address : Core → ℕ → Core
+with_address core n = record core { bus = record core.bus { address = n } }
+
+-- such a run notes that stage and does nothing else
+abbrev pub after_stages : Core → Option ℕ → Core
+after_stages core None = after_plain_irq core
+after_stages core (Some n) = with_address (with_stage core (finished_stage core.bus.side)) n
+
 -- a handler run. One that finds a reset empties everything and does nothing else
 abbrev pub after_irq : Core → Core
-after_irq core = if core.bus.reset then emptied true else after_plain_irq core
+after_irq core = if core.bus.reset then emptied true else after_stages core (new_address core.transfer (finished_stage core.bus.side))
 
 -- endpoint 0 with this ready, and this transfer running
 abbrev pub with_side : Core → Side → Transfer → Core
@@ -70,14 +106,56 @@ abbrev pub advanced : Core → Transfer → Stage → Core
 advanced core (Sending packets) Sent = sending core packets
 advanced core (Sending packets) (Came bytes) = record core { transfer = Idle }
 advanced core Ending stage = record core { transfer = Idle }
+advanced core (Addressing n) stage = record core { transfer = Idle }
 advanced core Idle stage = core
 
--- a task begins the transfer of a request. Data of which the host allows no byte has no data stage
--- (USB 2.0, 9.3.5), so its status stage follows
-abbrev pub begun : Core → Decision → ℕ → Core
-begun core (Gives bytes) zero = with_side core (Wait [] false) Ending
-begun core (Gives bytes) (suc n) = sending core (data_packets bytes (suc n))
-begun core Refuses allowed = with_side core Stall Idle
+-- the first stage of a request with data for the host. Data of which the host allows no byte has no data stage
+-- (9.3.5), so its status stage follows
+abbrev pub with_data : Core → List ℕ → ℕ → Core
+with_data core bytes zero = with_side core (Wait [] false) Ending
+with_data core bytes (suc n) = sending core (data_packets bytes (suc n))
+
+-- a request is refused (9.2.7)
+abbrev pub refused : Core → Core
+refused core = with_side core Stall Idle
+
+-- the status stage of a request without data
+abbrev pub ending : Effect → Transfer
+ending (effect.Address n) = Addressing n
+ending effect.None = Ending
+ending (effect.Configure begins) = Ending
+ending (effect.Halt a) = Ending
+ending (effect.Clear a) = Ending
+ending (effect.ClearInterface n) = Ending
+
+-- the first stage of a request, by what is done at it. No request takes data from the host yet
+abbrev pub staged : Core → Decision → Effect → ℕ → Core
+staged core (decision.Data bytes) e allowed = with_data core bytes.items allowed
+staged core (decision.Take n) e allowed = refused core
+staged core decision.Status e allowed = with_side core (Wait [] false) (ending e)
+staged core decision.Stall e allowed = refused core
+
+-- SET_CONFIGURATION ends the session, and a new one begins where it says so (9.4.7)
+abbrev pub configured : Set → Core → Bool → Core
+configured set core begins = record core { bus = record core.bus { endpoints = opened set begins }; session = begins; halted = [] }
+
+-- the halts are those after an effect
+abbrev pub with_halts : Set → Core → Effect → Core
+with_halts set core e = record core { halted = halted_after set core.halted e }
+
+-- what a request changes in the task that takes it. A new address waits for the end of the status stage
+abbrev pub changed : Set → Core → Effect → Core
+changed set core effect.None = core
+changed set core (effect.Address n) = core
+changed set core (effect.Configure begins) = configured set core begins
+changed set core (effect.Halt a) = with_halts set core (effect.Halt a)
+changed set core (effect.Clear a) = with_halts set core (effect.Clear a)
+changed set core (effect.ClearInterface n) = with_halts set core (effect.ClearInterface n)
+
+-- a task begins the transfer of a request. No class is driven yet, so there is none that decides
+abbrev pub begun : Set → Core → Choice → ℕ → Core
+begun set core (Own d e) allowed = changed set (staged core d e allowed) e
+begun set core (Class o) allowed = refused core
 
 -- the stage note is taken and worked
 abbrev pub work_stage : Core → Option Stage → Core
@@ -85,10 +163,14 @@ work_stage core None = core
 work_stage core (Some stage) = advanced (record core { finished = None }) core.transfer stage
 
 -- and then the SETUP note
-abbrev pub work_request : List ℕ → Core → Option (List ℕ) → Core
-work_request device core None = core
-work_request device core (Some bytes) = begun (record core { request = None }) (decision device (fields_of bytes)) (fields_of bytes).length
+abbrev pub work_request : Set → Core → Option (List ℕ) → Core
+work_request set core None = core
+work_request set core (Some bytes) =
+    begun set (record core { request = None }) (choice set (state_of core) (fields_of bytes)) (fields_of bytes).length
 
--- a task run. `device` is the device descriptor
-abbrev pub after_task : List ℕ → Core → Core
-after_task device core = work_request device (work_stage core core.finished) core.request
+abbrev pub with_request_worked : Set → Core → Core
+with_request_worked set core = work_request set core core.request
+
+-- a task run
+abbrev pub after_task : Set → Core → Core
+after_task set core = with_request_worked set (work_stage core core.finished)

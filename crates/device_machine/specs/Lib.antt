@@ -1,3 +1,5 @@
 pub mod Bus
-pub mod Request
+pub mod Packets
+pub mod Session
 pub mod Core
+pub mod Laws

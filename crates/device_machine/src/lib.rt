@@ -3,5 +3,6 @@
 #![tactic(auto)]
 
 mod control;
+pub mod laws;
 
 pub use control::{Side, Stage};
