@@ -5,4 +5,4 @@
 mod controller;
 mod endpoint;
 
-pub use controller::DevCore;
+pub use controller::PlainCore;

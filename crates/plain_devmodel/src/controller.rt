@@ -2,50 +2,54 @@ ghost use Rattle.std.specs.Prelude.{◌≡◌, ◌≤◌, List, [], Bool, true, 
 ghost use Rattle.usb_packet.specs.declared.bus.Toggle.TheVariants.{D0};
 ghost use Rattle.usb_packet.specs.declared.bus.BusEvent.TheVariants.{Setup, Out, In};
 ghost use Rattle.device_machine.specs.declared.control.Side.TheVariants.{Off, Wait, Stall};
-ghost use Rattle.device_machine.specs.Bus.{Bus, unconfigured, most_setups, is_empty, bus_answer, bus_after, out_answer, after_out, in_answer, after_in, hears, disturbed, finished_stage, without_stage, loaded, last_of, takes};
+ghost use Rattle.device_machine.specs.Bus.{Bus, unconfigured, most_setups, hears_out, hears_in, serves, is_empty, bus_answer, bus_after, out_answer, after_out, in_answer, after_in, hears, disturbed, finished_stage, without_stage, loaded, last_of, takes};
 
 use crate::endpoint;
 use arrayvec::ArrayVec;
 use device_machine::{Side, Stage};
 use std::marker::Model;
 use std::mem;
+use usb_descriptor::Endpoint;
 use usb_packet::{BusAnswer, BusEvent, Packet, Toggle};
 
-/// The device controller: whether it hears the bus, its address, and endpoint 0 (USB 2.0, 8.5.3).
+/// The device controller: whether it hears the bus, its address, the endpoints that are open, and endpoint 0
+/// (USB 2.0, 8.5.3).
 #[derive(Drop)]
-pub struct DevCore {
+pub struct PlainCore {
     awake: bool,
     reset: bool,
     address: u8,
+    endpoints: ArrayVec<Endpoint, 30>,
     unserved: ArrayVec<[u8; 8], 3>,
     side: Side,
     taken: bool,
     toggle: Toggle,
 }
 
-impl Model for DevCore {
+impl Model for PlainCore {
     ghost Value = { Bus };
 
-    ghost view = { λ c. record { awake = c.awake; reset = c.reset; address = c.address; unserved = c.unserved.items; side = c.side; taken = c.taken; toggle = c.toggle } };
+    ghost view = { λ c. record { awake = c.awake; reset = c.reset; address = c.address; endpoints = c.endpoints.items; unserved = c.unserved.items; side = c.side; taken = c.taken; toggle = c.toggle } };
 
     ghost invariant = { λ c. length c.unserved.items ≤ most_setups };
 }
 
-impl DevCore {
+impl PlainCore {
     /// A controller at its start: asleep, at address 0, with nothing on endpoint 0.
-    pub fn new() -> DevCore
+    pub fn new() -> PlainCore
         ensures { result ≡ unconfigured false }
     {
-        DevCore::emptied(false)
+        PlainCore::emptied(false)
     }
 
-    fn emptied(awake: bool) -> DevCore
+    fn emptied(awake: bool) -> PlainCore
         ensures { result ≡ unconfigured awake }
     {
-        DevCore {
+        PlainCore {
             awake,
             reset: false,
             address: 0,
+            endpoints: ArrayVec::new(),
             unserved: ArrayVec::new(),
             side: Side::Off,
             taken: false,
@@ -82,6 +86,30 @@ impl DevCore {
         self.awake && addr == self.address
     }
 
+    /// Whether an OUT packet is heard: undamaged, and on endpoint 0 or on an open one that has packets of its length.
+    fn hears_out(&self, addr: u8, ep: u8, packet: &Packet, ok: bool) -> bool
+        ensures { result ≡ hears_out self.now addr ep packet.now ok }
+    {
+        let bytes = packet.bytes().len();
+        self.hears(addr)
+            && ok
+            && (ep == 0 || endpoint::any_out(self.endpoints.as_slice(), ep, bytes))
+    }
+
+    /// Whether an IN token is heard: on endpoint 0 or on an open one.
+    fn hears_in(&self, addr: u8, ep: u8) -> bool
+        ensures { result ≡ hears_in self.now addr ep }
+    {
+        self.hears(addr) && (ep == 0 || endpoint::any_in(self.endpoints.as_slice(), ep))
+    }
+
+    /// Whether endpoint 0 answers by what it holds. All else answers NAK.
+    fn serves(&self, ep: u8) -> bool
+        ensures { result ≡ serves self.now ep }
+    {
+        ep == 0 && self.unserved.is_empty()
+    }
+
     fn setup(&mut self, addr: u8, bytes: &[u8; 8], ok: bool) -> BusAnswer
         ensures answer { result ≡ bus_answer self.old (Setup addr bytes.now ok) }
         ensures after { self.new ≡ bus_after self.old (Setup addr bytes.now ok) }
@@ -101,10 +129,10 @@ impl DevCore {
         ensures answer { result ≡ bus_answer self.old (Out addr ep toggle packet.now ok) }
         ensures after { self.new ≡ bus_after self.old (Out addr ep toggle packet.now ok) }
     {
-        if !self.hears(addr) || !ok || ep != 0 {
+        if !self.hears_out(addr, ep, packet, ok) {
             return BusAnswer::NoAnswer;
         }
-        if !self.unserved.is_empty() {
+        if !self.serves(ep) {
             return BusAnswer::Nak;
         }
         let answer = endpoint::out_answer(&self.side, self.taken, toggle);
@@ -119,10 +147,10 @@ impl DevCore {
         ensures answer { result ≡ bus_answer self.old (In addr ep ok) }
         ensures after { self.new ≡ bus_after self.old (In addr ep ok) }
     {
-        if !self.hears(addr) || ep != 0 {
+        if !self.hears_in(addr, ep) {
             return BusAnswer::NoAnswer;
         }
-        if !self.unserved.is_empty() {
+        if !self.serves(ep) {
             return BusAnswer::Nak;
         }
         let answer = endpoint::in_answer(&self.side, self.toggle);
@@ -156,7 +184,7 @@ impl DevCore {
     {
         let reset = self.reset;
         if reset {
-            *self = DevCore::emptied(true);
+            *self = PlainCore::emptied(true);
         }
         reset
     }
@@ -208,5 +236,29 @@ impl DevCore {
         ensures { self.new ≡ record self.old { side = Stall } }
     {
         self.side = Side::Stall;
+    }
+
+    /// The device address is this one from here on (USB 2.0, 9.4.6).
+    pub fn set_address(&mut self, address: u8)
+        ensures { self.new ≡ record self.old { address = address } }
+    {
+        self.address = address;
+    }
+
+    /// These endpoints other than 0 are open from here on, and no others.
+    pub fn open_endpoints(&mut self, endpoints: &[Endpoint])
+        requires { length endpoints.now ≤ 30 }
+        ensures { self.new ≡ record self.old { endpoints = endpoints.now } }
+    {
+        let mut copy = ArrayVec::new();
+        let _ = copy.try_extend_from_slice(endpoints);
+        self.endpoints = copy;
+    }
+
+    /// All endpoints but 0 are closed.
+    pub fn close_endpoints(&mut self)
+        ensures { self.new ≡ record self.old { endpoints = [] } }
+    {
+        self.endpoints = ArrayVec::new();
     }
 }

@@ -1,8 +1,26 @@
 ghost use Rattle.std.specs.Prelude.{◌≡◌, Bool, true, false};
-ghost use Rattle.device_machine.specs.Bus.{out_answer, in_answer, takes, disturbed, finished_stage, without_stage, loaded, flipped, again_answer};
+ghost use Rattle.std.specs.List.{list_any};
+ghost use Rattle.device_machine.specs.Bus.{is_out_for, is_in_for, out_answer, in_answer, takes, disturbed, finished_stage, without_stage, loaded, flipped, again_answer};
 
 use device_machine::{Side, Stage};
+use usb_descriptor::Endpoint;
 use usb_packet::{BusAnswer, Toggle};
+
+/// Whether one of these endpoints has packets of so many bytes from the host at this number.
+pub fn any_out(endpoints: &[Endpoint], ep: u8, bytes: usize) -> bool
+    ensures { result ≡ list_any (is_out_for ep bytes) endpoints.now }
+{
+    endpoints.iter().any(|e| ep < 128 && e.addr == ep && bytes <= usize::from(e.size))
+}
+
+/// Whether one of these endpoints has packets for the host at this number.
+pub fn any_in(endpoints: &[Endpoint], ep: u8) -> bool
+    ensures { result ≡ list_any (is_in_for ep) endpoints.now }
+{
+    endpoints
+        .iter()
+        .any(|e| u16::from(e.addr) == 128 + u16::from(ep))
+}
 
 /// The other toggle.
 pub fn flipped(toggle: Toggle) -> Toggle
