@@ -1,1 +1,4 @@
-pub mod Data
+pub mod Address
+pub mod Halts
+pub mod Packets
+pub mod Whole
