@@ -10,7 +10,7 @@ use Rattle.std.proofs.lemmas.Option.{cond_some}
 use Rattle.std.proofs.lemmas.Bool.Decides.{nat_tests}
 use Rattle.std.proofs.Common.{rules}
 use Rattle.usb_text.specs.Field.{is_numeral, read_on, number_of}
-use Rattle.usb_text.proofs.Hex.{is_word}
+use Rattle.usb_text.proofs.Hex.{is_seen, is_word}
 
 -- the words of this crate for digits and their value are those of the library
 own : IsNumeralModel (λ ds. list_all is_ascii_digit ds ≡ true) (read_on 0)
@@ -37,9 +37,12 @@ no_zero_leads n h = elim (cases_lt 0 n) [
   | inr none ↦ rw (decimal_digit n (omega arith)) (and-false (eqb (48 + n) 48))
 ]
 
-numeral_again : (n : ℕ) → n < 2 ^ 64 → is_numeral (decimal n) ≡ true
+pub numeral_again : (n : ℕ) → n < 2 ^ 64 → is_numeral (decimal n) ≡ true
 numeral_again n h =
     all_three _ _ _ (digits_decimal own n h) (lt-ltb 0 (length (decimal n)) (decimal_nonempty n h)) (no_zero_leads n h)
+
+pub value_again : (n : ℕ) → n < 2 ^ 64 → read_on 0 (decimal n) ≡ n
+value_again n h = digits_value-decimal own n h
 
 pub number_again : (n most : ℕ) → n ≤ most → most < 2 ^ 64 → number_of most (decimal n) ≡ Some n
 number_again n most h fits =
@@ -68,14 +71,14 @@ number_only word n most fits h =
     let same = decimal-digits_value own word numeral.0 size (lead_alone word size rest.1) (omega arith) in
     (sym same ∙ ap decimal some.1, omega (arith, some.1))
 
-digit_no_space : (c : ℕ) → is_ascii_digit c ≡ true → ltb 32 c ≡ true
-digit_no_space c h = grind (arith, nat_tests)
+digit_is_seen : (c : ℕ) → is_ascii_digit c ≡ true → is_seen c ≡ true
+digit_is_seen c h = grind (arith, nat_tests)
 
 word_of_digits : (word : List ℕ) → list_all is_ascii_digit word ≡ true → is_word word ≡ true
 word_of_digits [] h = refl
 word_of_digits (c ∷ cs) h =
     let parts = and_true _ _ h in
-    let here : ltb 32 c ≡ true = digit_no_space c parts.0 in
+    let here : is_seen c ≡ true = digit_is_seen c parts.0 in
     rw (here, word_of_digits cs parts.1) refl
 
 pub decimal_is_word : (n : ℕ) → n < 2 ^ 64 → is_word (decimal n) ≡ true

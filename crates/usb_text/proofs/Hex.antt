@@ -6,8 +6,7 @@ use Rattle.std.specs.Str.{bytes_eq}
 use Rattle.std.proofs.lemmas.Bool.{leb-true}
 use Rattle.std.proofs.lemmas.Option.{cond_some}
 use Rattle.std.proofs.lemmas.Bool.Decides.{nat_tests}
-use Rattle.usb_text.specs.Field.{hex_digit, hex_pair, hex, digit_value, both, pair_value, with_byte, bytes_of_pairs, at_most, bytes_in}
-use Rattle.usb_text.specs.Line.{AreBytes}
+use Rattle.usb_text.specs.Field.{AreBytes, hex_digit, hex_pair, hex, digit_value, both, pair_value, with_byte, bytes_of_pairs, at_most, bytes_in}
 
 digit_again : (n : ℕ) → n < 16 → digit_value (hex_digit n) ≡ Some n
 digit_again n h = grind (arith, nat_tests)
@@ -61,7 +60,7 @@ pairs_only (c ∷ d ∷ cs) bytes h =
     let q = pairs_only cs w.1 w.3 in
     subst (λ (z : List ℕ). (c ∷ d ∷ cs ≡ flat_map hex_pair z) × AreBytes z) w.4 (cons_two c d _ _ cs _ p.0 p.1 q.0, (p.2, q.1))
 
-two_no_dash : (c d : ℕ) (cs : List ℕ) → bytes_eq (c ∷ d ∷ cs) (codes "-") ≡ false
+pub two_no_dash : (c d : ℕ) (cs : List ℕ) → bytes_eq (c ∷ d ∷ cs) (codes "-") ≡ false
 two_no_dash c d cs = elim (eqb c 45) as (λ b. (b && false) ≡ false) [ true ↦ refl | false ↦ refl ]
 
 at_most_some : (n : ℕ) (bytes : List ℕ) → length bytes ≤ n → at_most n (Some bytes) ≡ Some bytes
@@ -100,17 +99,23 @@ hex_only n (c ∷ cs) bytes h =
           (hex_nonempty (c ∷ cs) bytes (omega arith) p.0, p.1, m.1)
     ]
 
--- no space stands in it, nor any byte below one
+-- it is seen: printable, and no space
+abbrev pub is_seen : ℕ → Bool
+is_seen b = ltb 32 b && leb b 126
+
 abbrev pub is_word : List ℕ → Bool
-is_word bytes = list_all (λ b. ltb 32 b) bytes
+is_word bytes = list_all is_seen bytes
 
-digit_is_no_space : (n : ℕ) → ltb 32 (hex_digit n) ≡ true
-digit_is_no_space n = grind (arith, nat_tests)
+digit_is_seen : (n : ℕ) → n < 16 → is_seen (hex_digit n) ≡ true
+digit_is_seen n h = grind (arith, nat_tests)
 
-pairs_are_word : (bytes : List ℕ) → is_word (flat_map hex_pair bytes) ≡ true
-pairs_are_word [] = refl
-pairs_are_word (b ∷ bs) = rw (digit_is_no_space (b / 16), digit_is_no_space (b % 16), pairs_are_word bs) refl
+pairs_are_word : (bytes : List ℕ) → AreBytes bytes → is_word (flat_map hex_pair bytes) ≡ true
+pairs_are_word [] h = refl
+pairs_are_word (b ∷ bs) h =
+    let high : b / 16 < 16 = omega (arith, h.0) in
+    let low : b % 16 < 16 = omega arith in
+    rw (digit_is_seen (b / 16) high, digit_is_seen (b % 16) low, pairs_are_word bs h.1) refl
 
-pub hex_is_word : (bytes : List ℕ) → is_word (hex bytes) ≡ true
-hex_is_word [] = refl
-hex_is_word (b ∷ bs) = pairs_are_word (b ∷ bs)
+pub hex_is_word : (bytes : List ℕ) → AreBytes bytes → is_word (hex bytes) ≡ true
+hex_is_word [] h = refl
+hex_is_word (b ∷ bs) h = pairs_are_word (b ∷ bs) h

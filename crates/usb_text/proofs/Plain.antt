@@ -1,5 +1,5 @@
 -- No newline stands in a line's text, and it is short.
-use Rattle.std.proofs.Common.{◌≡◌, ℕ, ◌+◌, ◌*◌, ◌≤◌, ◌<◌, List, [], ◌∷◌, ◌++◌, Bool, true, false, not, ltb, eqb, length, refl, ◌∙◌, arith, codes, length-append}
+use Rattle.std.proofs.Common.{◌≡◌, ℕ, ◌+◌, ◌*◌, ◌≤◌, ◌<◌, List, [], ◌∷◌, ◌++◌, Bool, true, false, not, eqb, length, refl, ◌∙◌, arith, codes, length-append}
 use Rattle.std.specs.List.{list_all, flat_map}
 use Rattle.std.specs.Fmt.{decimal}
 use Rattle.std.proofs.lemmas.Fmt.{length-decimal-le}
@@ -8,43 +8,41 @@ use Rattle.std.proofs.lemmas.Bool.Decides.{nat_tests}
 use Rattle.usb_packet.specs.declared.bus.Toggle.{Toggle}
 use Rattle.usb_packet.specs.declared.bus.Toggle.TheVariants.{D0, D1}
 use Rattle.usb_packet.specs.declared.bus.BusEvent.TheVariants as event
-use Rattle.usb_text.specs.declared.line.DevLine.TheVariants.{Bus, Irq, Task}
-use Rattle.usb_text.specs.declared.line.Line.{Line}
-use Rattle.usb_text.specs.declared.line.Line.TheVariants.{Device, End}
+use Rattle.usb_text.specs.declared.line.DevLine.TheVariants.{Bus, Irq, Task, Call}
+use Rattle.usb_text.specs.declared.call.DevCall.TheVariants as call
+use Rattle.usb_text.specs.Scheduled.{Scheduled}
+use Rattle.usb_text.specs.Scheduled.{Device, End}
 use Rattle.usb_text.specs.declared.head.HeadLine.{HeadLine}
 use Rattle.usb_text.specs.declared.head.HeadLine.TheVariants as head
 use Rattle.usb_text.specs.Field.{space, spaced, hex, hex_pair}
-use Rattle.usb_text.specs.Line.{newline, fate_text, bad, noack, toggle_text, line_words, line_text, IsLine}
+use Rattle.usb_text.specs.Line.{newline, fate_text, bad, noack, toggle_text, schedule_words_of, schedule_text_of, IsScheduled}
 use Rattle.usb_text.specs.Head.{head_words, head_text, IsHead}
 use Rattle.usb_text.specs.Plain.{is_plain}
-use Rattle.usb_text.proofs.Hex.{is_word, hex_is_word}
+use Rattle.usb_text.specs.Rules.{most_line}
+use Rattle.usb_text.proofs.Hex.{is_seen, is_word}
 use Rattle.usb_text.proofs.Decimal.{and_true}
-use Rattle.usb_text.proofs.Printed.{line_words_are_words}
+use Rattle.usb_text.proofs.Printed.{schedule_words_are_words}
+use Rattle.usb_text.proofs.Heads.{head_words_are_words}
 
-above_newline : (b : ℕ) → ltb 32 b ≡ true → not (eqb b newline) ≡ true
+above_newline : (b : ℕ) → is_seen b ≡ true → not (eqb b newline) ≡ true
 above_newline b h = grind (arith, nat_tests)
 
 word_is_plain : (word : List ℕ) → is_word word ≡ true → is_plain word ≡ true
 word_is_plain [] h = refl
 word_is_plain (b ∷ bs) h = let parts = and_true _ _ h in rw (above_newline b parts.0, word_is_plain bs parts.1) refl
 
-spaced_is_plain : (words : List (List ℕ)) → list_all is_word words ≡ true → is_plain (spaced words) ≡ true
+pub spaced_is_plain : (words : List (List ℕ)) → list_all is_word words ≡ true → is_plain (spaced words) ≡ true
 spaced_is_plain [] h = refl
 spaced_is_plain (word ∷ []) h = word_is_plain word (and_true _ _ h).0
 spaced_is_plain (word ∷ next ∷ words) h =
     let parts = and_true _ _ h in
     rw (list_all-append (λ b. not (eqb b newline)) word (space ∷ spaced (next ∷ words)), word_is_plain word parts.0) (spaced_is_plain (next ∷ words) parts.1)
 
-pub line_is_plain : (line : Line) → IsLine line → is_plain (line_text line) ≡ true
-line_is_plain line h = spaced_is_plain (line_words line) (line_words_are_words line h)
+pub schedule_is_plain : (line : Scheduled) → IsScheduled line → is_plain (schedule_text_of line) ≡ true
+schedule_is_plain line h = spaced_is_plain (schedule_words_of line) (schedule_words_are_words line h)
 
-head_words_are_words : (line : HeadLine) → list_all is_word (head_words line) ≡ true
-head_words_are_words (head.Device bytes) = rw (hex_is_word bytes.items) refl
-head_words_are_words (head.Config bytes) = rw (hex_is_word bytes.items) refl
-head_words_are_words head.Begin = refl
-
-pub head_is_plain : (line : HeadLine) → is_plain (head_text line) ≡ true
-head_is_plain line = spaced_is_plain (head_words line) (head_words_are_words line)
+pub head_is_plain : (line : HeadLine) → IsHead line → is_plain (head_text line) ≡ true
+head_is_plain line h = spaced_is_plain (head_words line) (head_words_are_words line h)
 
 pub length-pairs : (bytes : List ℕ) → length (flat_map hex_pair bytes) ≡ 2 * length bytes
 length-pairs [] = refl
@@ -65,12 +63,11 @@ length-toggle D1 = refl
 length-number : (n most : ℕ) → n ≤ most → most < 1000 → length (decimal n) ≤ 3
 length-number n most h few = length-decimal-le 3 n (omega arith) (omega arith) (omega arith)
 
--- the most bytes that a line has
-abbrev pub most_line : ℕ
-most_line = 8400
-
 length-two : (a b : List ℕ) → length (spaced (a ∷ b ∷ [])) ≡ length a + (1 + length b)
 length-two a b = length-append a (space ∷ b) ∙ omega arith
+
+length-three : (a b c : List ℕ) → length (spaced (a ∷ b ∷ c ∷ [])) ≡ length a + (1 + (length b + (1 + length c)))
+length-three a b c = length-append a _ ∙ omega (arith, length-append b (space ∷ c))
 
 length-four : (a b c d : List ℕ) → length (spaced (a ∷ b ∷ c ∷ d ∷ [])) ≡ length a + (1 + (length b + (1 + (length c + (1 + length d)))))
 length-four a b c d = length-append a _ ∙ omega (arith, length-append b (space ∷ (c ++ (space ∷ d))), length-append c (space ∷ d))
@@ -78,11 +75,11 @@ length-four a b c d = length-append a _ ∙ omega (arith, length-append b (space
 length-six : (a b c d e f : List ℕ) → length (spaced (a ∷ b ∷ c ∷ d ∷ e ∷ f ∷ [])) ≡ length a + (1 + (length b + (1 + (length c + (1 + (length d + (1 + (length e + (1 + length f)))))))))
 length-six a b c d e f = length-append a _ ∙ omega (arith, length-append b (space ∷ spaced (c ∷ d ∷ e ∷ f ∷ [])), length-four c d e f)
 
-pub line_is_short : (line : Line) → IsLine line → length (line_text line) ≤ most_line
-line_is_short (Device (Bus event.Reset)) h = omega arith
-line_is_short (Device (Bus (event.Setup addr bytes ok))) h =
+pub schedule_is_short : (line : Scheduled) → IsScheduled line → length (schedule_text_of line) ≤ most_line
+schedule_is_short (Device (Bus event.Reset)) h = omega arith
+schedule_is_short (Device (Bus (event.Setup addr bytes ok))) h =
     omega (arith, length-four (codes "setup") (decimal addr) (hex bytes) (fate_text bad ok), length-number addr 127 h.0 (omega arith), length-hex bytes, h.1, length-fate bad ok (omega arith))
-line_is_short (Device (Bus (event.Out addr ep toggle bytes ok))) h =
+schedule_is_short (Device (Bus (event.Out addr ep toggle bytes ok))) h =
     omega (
       arith,
       length-six (codes "out") (decimal addr) (decimal ep) (toggle_text toggle) (hex bytes) (fate_text bad ok),
@@ -93,7 +90,7 @@ line_is_short (Device (Bus (event.Out addr ep toggle bytes ok))) h =
       h.2,
       length-fate bad ok (omega arith),
     )
-line_is_short (Device (Bus (event.In addr ep ok))) h =
+schedule_is_short (Device (Bus (event.In addr ep ok))) h =
     omega (
       arith,
       length-four (codes "in") (decimal addr) (decimal ep) (fate_text noack ok),
@@ -101,11 +98,19 @@ line_is_short (Device (Bus (event.In addr ep ok))) h =
       length-number ep 15 h.1 (omega arith),
       length-fate noack ok (omega arith),
     )
-line_is_short (Device Irq) h = omega arith
-line_is_short (Device Task) h = omega arith
-line_is_short End h = omega arith
+schedule_is_short (Device Irq) h = omega arith
+schedule_is_short (Device Task) h = omega arith
+schedule_is_short (Device (Call call.State)) h = omega arith
+schedule_is_short (Device (Call (call.Cdc c))) h = absurd h.0
+schedule_is_short (Device (Call (call.Hid c))) h = absurd h.0
+schedule_is_short (Device (Call (call.Msc c))) h = absurd h.0
+schedule_is_short (Device (Call (call.Midi c))) h = absurd h.0
+schedule_is_short End h = omega arith
 
 pub head_is_short : (line : HeadLine) → IsHead line → length (head_text line) ≤ most_line
 head_is_short (head.Device bytes) h = omega (arith, length-two (codes "device") (hex bytes.items), length-hex bytes.items, h.1)
 head_is_short (head.Config bytes) h = omega (arith, length-two (codes "config") (hex bytes.items), length-hex bytes.items, h.1)
+head_is_short (head.Text index body) h =
+    omega (arith, length-three (codes "string") (decimal index) (hex body.items), length-number index 255 h.1 (omega arith), length-hex body.items, h.2.1)
+head_is_short (head.Report bytes) h = omega (arith, length-two (codes "report") (hex bytes.items), length-hex bytes.items, h.1)
 head_is_short head.Begin h = omega arith

@@ -6,11 +6,12 @@ use Rattle.std.proofs.lemmas.Bool.Decides.{nat_tests}
 use Rattle.usb_packet.specs.declared.bus.Toggle.{Toggle}
 use Rattle.usb_packet.specs.declared.bus.Toggle.TheVariants.{D0, D1}
 use Rattle.usb_packet.specs.declared.bus.BusEvent.TheVariants as event
-use Rattle.usb_text.specs.declared.line.DevLine.TheVariants.{Bus, Irq, Task}
-use Rattle.usb_text.specs.declared.line.Line.{Line}
-use Rattle.usb_text.specs.declared.line.Line.TheVariants.{Device, End}
+use Rattle.usb_text.specs.declared.line.DevLine.TheVariants.{Bus, Irq, Task, Call}
+use Rattle.usb_text.specs.declared.call.DevCall.TheVariants as call
+use Rattle.usb_text.specs.Scheduled.{Scheduled}
+use Rattle.usb_text.specs.Scheduled.{Device, End}
 use Rattle.usb_text.specs.Field.{spaced, hex, exactly, fate_of}
-use Rattle.usb_text.specs.Line.{fate_text, bad, noack, toggle_text, line_words, line_text, IsLine}
+use Rattle.usb_text.specs.Line.{fate_text, bad, noack, toggle_text, schedule_words_of, schedule_text_of, IsScheduled}
 use Rattle.usb_text.specs.Reading.{toggle_of, words_line, line_of}
 use Rattle.usb_text.proofs.Hex.{is_word, hex_again, hex_is_word}
 use Rattle.usb_text.proofs.Decimal.{and_true, number_again, decimal_is_word}
@@ -43,52 +44,62 @@ small : (n most : ℕ) → n ≤ most → most < 2 ^ 64 → n < 2 ^ 64
 small n most h k = omega arith
 
 -- no space stands in a word of a line
-pub line_words_are_words : (line : Line) → IsLine line → list_all is_word (line_words line) ≡ true
-line_words_are_words (Device (Bus event.Reset)) h = refl
-line_words_are_words (Device (Bus (event.Setup addr bytes ok))) h =
-    rw (decimal_is_word addr (small addr 127 h.0 (omega arith)), hex_is_word bytes, fate_is_word bad ok refl) refl
-line_words_are_words (Device (Bus (event.Out addr ep toggle bytes ok))) h =
+pub schedule_words_are_words : (line : Scheduled) → IsScheduled line → list_all is_word (schedule_words_of line) ≡ true
+schedule_words_are_words (Device (Bus event.Reset)) h = refl
+schedule_words_are_words (Device (Bus (event.Setup addr bytes ok))) h =
+    rw (decimal_is_word addr (small addr 127 h.0 (omega arith)), hex_is_word bytes h.2, fate_is_word bad ok refl) refl
+schedule_words_are_words (Device (Bus (event.Out addr ep toggle bytes ok))) h =
     rw (
       decimal_is_word addr (small addr 127 h.0 (omega arith)),
       decimal_is_word ep (small ep 15 h.1 (omega arith)),
       toggle_is_word toggle,
-      hex_is_word bytes,
+      hex_is_word bytes h.3,
       fate_is_word bad ok refl,
     ) refl
-line_words_are_words (Device (Bus (event.In addr ep ok))) h =
+schedule_words_are_words (Device (Bus (event.In addr ep ok))) h =
     rw (decimal_is_word addr (small addr 127 h.0 (omega arith)), decimal_is_word ep (small ep 15 h.1 (omega arith)), fate_is_word noack ok refl) refl
-line_words_are_words (Device Irq) h = refl
-line_words_are_words (Device Task) h = refl
-line_words_are_words End h = refl
+schedule_words_are_words (Device Irq) h = refl
+schedule_words_are_words (Device Task) h = refl
+schedule_words_are_words (Device (Call call.State)) h = refl
+schedule_words_are_words (Device (Call (call.Cdc c))) h = absurd h.0
+schedule_words_are_words (Device (Call (call.Hid c))) h = absurd h.0
+schedule_words_are_words (Device (Call (call.Msc c))) h = absurd h.0
+schedule_words_are_words (Device (Call (call.Midi c))) h = absurd h.0
+schedule_words_are_words End h = refl
 
 -- the text of words is read by those words
-cut_again : (word : List ℕ) (words : List (List ℕ)) → list_all is_word (word ∷ words) ≡ true → line_of (spaced (word ∷ words)) ≡ words_line (word ∷ words)
+pub cut_again : (word : List ℕ) (words : List (List ℕ)) → list_all is_word (word ∷ words) ≡ true → line_of (spaced (word ∷ words)) ≡ words_line (word ∷ words)
 cut_again word words h = let parts = and_true _ _ h in ap words_line (pieces-spaced word words parts.0 parts.1)
 
-setup_again : (addr : ℕ) (bytes : List ℕ) (ok : Bool) → IsLine (Device (Bus (event.Setup addr bytes ok)))
-    → line_of (line_text (Device (Bus (event.Setup addr bytes ok)))) ≡ Some (Device (Bus (event.Setup addr bytes ok)))
+setup_again : (addr : ℕ) (bytes : List ℕ) (ok : Bool) → IsScheduled (Device (Bus (event.Setup addr bytes ok)))
+    → line_of (schedule_text_of (Device (Bus (event.Setup addr bytes ok)))) ≡ Some (Device (Bus (event.Setup addr bytes ok)))
 setup_again addr bytes ok h =
     let few : length bytes ≤ 8 = omega (arith, h.1) in
-    cut_again (codes "setup") (decimal addr ∷ hex bytes ∷ fate_text bad ok ∷ []) (line_words_are_words (Device (Bus (event.Setup addr bytes ok))) h)
+    cut_again (codes "setup") (decimal addr ∷ hex bytes ∷ fate_text bad ok ∷ []) (schedule_words_are_words (Device (Bus (event.Setup addr bytes ok))) h)
     ∙ rw (number_again addr 127 h.0 (omega arith), hex_again 8 bytes h.2 few, exactly_same 8 bytes h.1, bad_again ok) refl
 
-out_again : (addr ep : ℕ) (toggle : Toggle) (bytes : List ℕ) (ok : Bool) → IsLine (Device (Bus (event.Out addr ep toggle bytes ok)))
-    → line_of (line_text (Device (Bus (event.Out addr ep toggle bytes ok)))) ≡ Some (Device (Bus (event.Out addr ep toggle bytes ok)))
+out_again : (addr ep : ℕ) (toggle : Toggle) (bytes : List ℕ) (ok : Bool) → IsScheduled (Device (Bus (event.Out addr ep toggle bytes ok)))
+    → line_of (schedule_text_of (Device (Bus (event.Out addr ep toggle bytes ok)))) ≡ Some (Device (Bus (event.Out addr ep toggle bytes ok)))
 out_again addr ep toggle bytes ok h =
-    cut_again (codes "out") (decimal addr ∷ decimal ep ∷ toggle_text toggle ∷ hex bytes ∷ fate_text bad ok ∷ []) (line_words_are_words (Device (Bus (event.Out addr ep toggle bytes ok))) h)
+    cut_again (codes "out") (decimal addr ∷ decimal ep ∷ toggle_text toggle ∷ hex bytes ∷ fate_text bad ok ∷ []) (schedule_words_are_words (Device (Bus (event.Out addr ep toggle bytes ok))) h)
     ∙ rw (number_again addr 127 h.0 (omega arith), number_again ep 15 h.1 (omega arith), toggle_again toggle, hex_again 64 bytes h.3 h.2, bad_again ok) refl
 
-in_again : (addr ep : ℕ) (ok : Bool) → IsLine (Device (Bus (event.In addr ep ok)))
-    → line_of (line_text (Device (Bus (event.In addr ep ok)))) ≡ Some (Device (Bus (event.In addr ep ok)))
+in_again : (addr ep : ℕ) (ok : Bool) → IsScheduled (Device (Bus (event.In addr ep ok)))
+    → line_of (schedule_text_of (Device (Bus (event.In addr ep ok)))) ≡ Some (Device (Bus (event.In addr ep ok)))
 in_again addr ep ok h =
-    cut_again (codes "in") (decimal addr ∷ decimal ep ∷ fate_text noack ok ∷ []) (line_words_are_words (Device (Bus (event.In addr ep ok))) h)
+    cut_again (codes "in") (decimal addr ∷ decimal ep ∷ fate_text noack ok ∷ []) (schedule_words_are_words (Device (Bus (event.In addr ep ok))) h)
     ∙ rw (number_again addr 127 h.0 (omega arith), number_again ep 15 h.1 (omega arith), noack_again ok) refl
 
-pub line_again : (line : Line) → IsLine line → line_of (line_text line) ≡ Some line
+pub line_again : (line : Scheduled) → IsScheduled line → line_of (schedule_text_of line) ≡ Some line
 line_again (Device (Bus event.Reset)) h = refl
 line_again (Device (Bus (event.Setup addr bytes ok))) h = setup_again addr bytes ok h
 line_again (Device (Bus (event.Out addr ep toggle bytes ok))) h = out_again addr ep toggle bytes ok h
 line_again (Device (Bus (event.In addr ep ok))) h = in_again addr ep ok h
 line_again (Device Irq) h = refl
 line_again (Device Task) h = refl
+line_again (Device (Call call.State)) h = refl
+line_again (Device (Call (call.Cdc c))) h = absurd h.0
+line_again (Device (Call (call.Hid c))) h = absurd h.0
+line_again (Device (Call (call.Msc c))) h = absurd h.0
+line_again (Device (Call (call.Midi c))) h = absurd h.0
 line_again End h = refl

@@ -1,5 +1,5 @@
 -- What is read as a line has that line's text.
-use Rattle.std.proofs.Common.{◌≡◌, ℕ, List, [], ◌∷◌, Bool, true, false, Option, Some, None, length, refl, ap, sym, ◌∙◌, arith, codes, cond, eqb, ◌⊎◌, inl, inr, subst, IfNone}
+use Rattle.std.proofs.Common.{◌≡◌, ℕ, List, [], ◌∷◌, Bool, true, false, Option, Some, None, length, refl, ap, sym, ◌∙◌, arith, codes, cond, eqb, ◌⊎◌, inl, inr, subst}
 use Rattle.std.specs.Str.{bytes_eq}
 use Rattle.std.specs.Cmp.Lexicographic.{same_text}
 use Rattle.std.proofs.lemmas.Bool.Decides.{nat_tests}
@@ -8,13 +8,14 @@ use Rattle.std.proofs.lemmas.List.Splits.{join_with_byte-slice_split}
 use Rattle.usb_packet.specs.declared.bus.Toggle.{Toggle}
 use Rattle.usb_packet.specs.declared.bus.Toggle.TheVariants.{D0, D1}
 use Rattle.usb_packet.specs.declared.bus.BusEvent.TheVariants as event
-use Rattle.usb_text.specs.declared.line.DevLine.TheVariants.{Bus, Irq, Task}
-use Rattle.usb_text.specs.declared.line.Line.{Line}
-use Rattle.usb_text.specs.declared.line.Line.TheVariants.{Device, End}
+use Rattle.usb_text.specs.declared.line.DevLine.TheVariants.{Bus, Irq, Task, Call}
+use Rattle.usb_text.specs.declared.call.DevCall.TheVariants as call
+use Rattle.usb_text.specs.Scheduled.{Scheduled}
+use Rattle.usb_text.specs.Scheduled.{Device, End}
 use Rattle.usb_text.specs.declared.line.Kind.{Kind}
 use Rattle.usb_text.specs.declared.line.Kind.TheVariants as kind
 use Rattle.usb_text.specs.Field.{space, pieces, spaced, number_of, bytes_in, exactly, fate_of}
-use Rattle.usb_text.specs.Line.{fate_text, bad, noack, toggle_text, most_address, most_endpoint, line_words, line_text, IsLine}
+use Rattle.usb_text.specs.Line.{fate_text, bad, noack, toggle_text, most_address, most_endpoint, schedule_words_of, schedule_text_of, IsScheduled}
 use Rattle.usb_text.specs.Reading.{kind_of, three, five, toggle_of, setup_line, setup_words, out_line, out_words, in_line, in_words, alone, fields_line, words_line, line_of}
 use Rattle.usb_text.proofs.Hex.{hex_only}
 use Rattle.usb_text.proofs.Decimal.{number_only}
@@ -26,12 +27,13 @@ name_of kind.Reset = codes "reset"
 name_of kind.Irq = codes "irq"
 name_of kind.Task = codes "task"
 name_of kind.End = codes "end"
+name_of kind.State = codes "state"
 name_of kind.Setup = codes "setup"
 name_of kind.Out = codes "out"
 name_of kind.In = codes "in"
 
 -- a test chose this value, or the others did
-chosen : {A : Type 0} (test : Bool) (this value : A) (others : Option A) → cond test (Some this) others ≡ Some value
+pub chosen : {A : Type 0} (test : Bool) (this value : A) (others : Option A) → cond test (Some this) others ≡ Some value
     → ((test ≡ true) × (this ≡ value)) ⊎ (others ≡ Some value)
 chosen true this value others h = inl (refl, cc)
 chosen false this value others h = inr h
@@ -52,7 +54,8 @@ kind_only name k h =
     named name (codes "irq") kind.Irq k _ refl (
     named name (codes "task") kind.Task k _ refl (
     named name (codes "reset") kind.Reset k _ refl (
-    named name (codes "end") kind.End k _ refl (λ (e : None ≡ Some k). absurd (cc)))))))) h
+    named name (codes "end") kind.End k _ refl (
+    named name (codes "state") kind.State k _ refl (λ (e : None ≡ Some k). absurd (cc))))))))) h
 
 fate_only : (other word : List ℕ) (ok : Bool) → fate_of other word ≡ Some ok → word ≡ fate_text other ok
 fate_only other word ok h =
@@ -95,10 +98,10 @@ five_only (a ∷ b ∷ c ∷ d ∷ e ∷ []) w h =
 five_only (a ∷ b ∷ c ∷ d ∷ e ∷ f ∷ fs) w h = absurd (cc)
 
 -- the words are those of the line, and its fields are in range
-abbrev Reads : List (List ℕ) → Line → Type 0
-Reads words line = (words ≡ line_words line) × IsLine line
+abbrev Reads : List (List ℕ) → Scheduled → Type 0
+Reads words line = (words ≡ schedule_words_of line) × IsScheduled line
 
-setup_fields_only : (w : List ℕ × List ℕ × List ℕ) (x : Option ℕ) (y : Option (List ℕ)) (z : Option Bool) (line : Line)
+setup_fields_only : (w : List ℕ × List ℕ × List ℕ) (x : Option ℕ) (y : Option (List ℕ)) (z : Option Bool) (line : Scheduled)
     → x ≡ number_of most_address w.0 → y ≡ exactly 8 (bytes_in 8 w.1) → z ≡ fate_of bad w.2
     → setup_line x y z ≡ Some line → Reads (codes "setup" ∷ w.0 ∷ w.1 ∷ w.2 ∷ []) line
 setup_fields_only w None y z line ex ey ez h = absurd (cc)
@@ -112,7 +115,7 @@ setup_fields_only w (Some addr) (Some bytes) (Some ok) line ex ey ez h =
     let e : Device (Bus (event.Setup addr bytes ok)) ≡ line = cc in
     subst (Reads (codes "setup" ∷ w.0 ∷ w.1 ∷ w.2 ∷ [])) e (rw (a.0, c.0, d) refl, (a.1, b.1, c.1))
 
-out_fields_only : (w : List ℕ × List ℕ × List ℕ × List ℕ × List ℕ) (x y : Option ℕ) (t : Option Toggle) (p : Option (List ℕ)) (z : Option Bool) (line : Line)
+out_fields_only : (w : List ℕ × List ℕ × List ℕ × List ℕ × List ℕ) (x y : Option ℕ) (t : Option Toggle) (p : Option (List ℕ)) (z : Option Bool) (line : Scheduled)
     → x ≡ number_of most_address w.0 → y ≡ number_of most_endpoint w.1 → t ≡ toggle_of w.2 → p ≡ bytes_in 64 w.3 → z ≡ fate_of bad w.4
     → out_line x y t p z ≡ Some line → Reads (codes "out" ∷ w.0 ∷ w.1 ∷ w.2 ∷ w.3 ∷ w.4 ∷ []) line
 out_fields_only w None y t p z line ex ey et ep ez h = absurd (cc)
@@ -129,7 +132,7 @@ out_fields_only w (Some addr) (Some ep) (Some toggle) (Some bytes) (Some ok) lin
     let e : Device (Bus (event.Out addr ep toggle bytes ok)) ≡ line = cc in
     subst (Reads (codes "out" ∷ w.0 ∷ w.1 ∷ w.2 ∷ w.3 ∷ w.4 ∷ [])) e (rw (a.0, b.0, t, c.0, d) refl, (a.1, b.1, c.2, c.1))
 
-in_fields_only : (w : List ℕ × List ℕ × List ℕ) (x y : Option ℕ) (z : Option Bool) (line : Line)
+in_fields_only : (w : List ℕ × List ℕ × List ℕ) (x y : Option ℕ) (z : Option Bool) (line : Scheduled)
     → x ≡ number_of most_address w.0 → y ≡ number_of most_endpoint w.1 → z ≡ fate_of noack w.2
     → in_line x y z ≡ Some line → Reads (codes "in" ∷ w.0 ∷ w.1 ∷ w.2 ∷ []) line
 in_fields_only w None y z line ex ey ez h = absurd (cc)
@@ -142,55 +145,52 @@ in_fields_only w (Some addr) (Some ep) (Some ok) line ex ey ez h =
     let e : Device (Bus (event.In addr ep ok)) ≡ line = cc in
     subst (Reads (codes "in" ∷ w.0 ∷ w.1 ∷ w.2 ∷ [])) e (rw (a.0, b.0, d) refl, (a.1, b.1))
 
-setup_only : (fields : List (List ℕ)) (w : Option (List ℕ × List ℕ × List ℕ)) (line : Line) → three fields ≡ w → setup_words w ≡ Some line → Reads (codes "setup" ∷ fields) line
+setup_only : (fields : List (List ℕ)) (w : Option (List ℕ × List ℕ × List ℕ)) (line : Scheduled) → three fields ≡ w → setup_words w ≡ Some line → Reads (codes "setup" ∷ fields) line
 setup_only fields None line e h = absurd (cc)
 setup_only fields (Some w) line e h =
     subst (λ (fs : List (List ℕ)). Reads (codes "setup" ∷ fs) line) (sym (three_only fields w e))
     (setup_fields_only w _ _ _ line refl refl refl h)
 
-out_only : (fields : List (List ℕ)) (w : Option (List ℕ × List ℕ × List ℕ × List ℕ × List ℕ)) (line : Line) → five fields ≡ w → out_words w ≡ Some line → Reads (codes "out" ∷ fields) line
+out_only : (fields : List (List ℕ)) (w : Option (List ℕ × List ℕ × List ℕ × List ℕ × List ℕ)) (line : Scheduled) → five fields ≡ w → out_words w ≡ Some line → Reads (codes "out" ∷ fields) line
 out_only fields None line e h = absurd (cc)
 out_only fields (Some w) line e h =
     subst (λ (fs : List (List ℕ)). Reads (codes "out" ∷ fs) line) (sym (five_only fields w e))
     (out_fields_only w _ _ _ _ _ line refl refl refl refl refl h)
 
-in_only : (fields : List (List ℕ)) (w : Option (List ℕ × List ℕ × List ℕ)) (line : Line) → three fields ≡ w → in_words w ≡ Some line → Reads (codes "in" ∷ fields) line
+in_only : (fields : List (List ℕ)) (w : Option (List ℕ × List ℕ × List ℕ)) (line : Scheduled) → three fields ≡ w → in_words w ≡ Some line → Reads (codes "in" ∷ fields) line
 in_only fields None line e h = absurd (cc)
 in_only fields (Some w) line e h =
     subst (λ (fs : List (List ℕ)). Reads (codes "in" ∷ fs) line) (sym (three_only fields w e))
     (in_fields_only w _ _ _ line refl refl refl h)
 
-alone_only : (name : List ℕ) (fields : List (List ℕ)) (this line : Line) → line_words this ≡ name ∷ [] → IsLine this → alone fields this ≡ Some line → Reads (name ∷ fields) line
+alone_only : (name : List ℕ) (fields : List (List ℕ)) (this line : Scheduled) → schedule_words_of this ≡ name ∷ [] → IsScheduled this → alone fields this ≡ Some line → Reads (name ∷ fields) line
 alone_only name [] this line e ok h = let same : this ≡ line = cc in subst (Reads (name ∷ [])) same (sym e, ok)
 alone_only name (f ∷ fs) this line e ok h = absurd (cc)
 
-fields_only : (kind : Kind) (fields : List (List ℕ)) (line : Line) → fields_line (Some kind) fields ≡ Some line → Reads (name_of kind ∷ fields) line
+fields_only : (kind : Kind) (fields : List (List ℕ)) (line : Scheduled) → fields_line (Some kind) fields ≡ Some line → Reads (name_of kind ∷ fields) line
 fields_only kind.Reset fields line h = alone_only (codes "reset") fields (Device (Bus event.Reset)) line refl tt h
 fields_only kind.Irq fields line h = alone_only (codes "irq") fields (Device Irq) line refl tt h
 fields_only kind.Task fields line h = alone_only (codes "task") fields (Device Task) line refl tt h
 fields_only kind.End fields line h = alone_only (codes "end") fields End line refl tt h
+fields_only kind.State fields line h = alone_only (codes "state") fields (Device (Call call.State)) line refl (tt, tt) h
 fields_only kind.Setup fields line h = setup_only fields (three fields) line refl h
 fields_only kind.Out fields line h = out_only fields (five fields) line refl h
 fields_only kind.In fields line h = in_only fields (three fields) line refl h
 
-kind_fields_only : (name : List ℕ) (k : Option Kind) (fields : List (List ℕ)) (line : Line) → kind_of name ≡ k → fields_line k fields ≡ Some line → Reads (name ∷ fields) line
+kind_fields_only : (name : List ℕ) (k : Option Kind) (fields : List (List ℕ)) (line : Scheduled) → kind_of name ≡ k → fields_line k fields ≡ Some line → Reads (name ∷ fields) line
 kind_fields_only name None fields line e h = absurd (cc)
 kind_fields_only name (Some k) fields line e h =
     subst (λ (n : List ℕ). Reads (n ∷ fields) line) (sym (kind_only name k e)) (fields_only k fields line h)
 
-words_only : (words : List (List ℕ)) (line : Line) → words_line words ≡ Some line → Reads words line
+words_only : (words : List (List ℕ)) (line : Scheduled) → words_line words ≡ Some line → Reads words line
 words_only [] line h = absurd (cc)
 words_only (name ∷ fields) line h = kind_fields_only name (kind_of name) fields line refl h
 
-pub line_only : (bytes : List ℕ) (line : Line) → line_of bytes ≡ Some line → (bytes ≡ line_text line) × IsLine line
+pub line_only : (bytes : List ℕ) (line : Scheduled) → line_of bytes ≡ Some line → (bytes ≡ schedule_text_of line) × IsScheduled line
 line_only bytes line h =
     let r = words_only (pieces bytes) line h in
     (sym (join_with_byte-slice_split space bytes) ∙ ap spaced r.0, r.1)
 
 -- what isn't read as a line has the text of none
-line_none : (bytes : List ℕ) → line_of bytes ≡ None → (line : Line) → IsLine line → bytes ≡ line_text line → ⊥
+pub line_none : (bytes : List ℕ) → line_of bytes ≡ None → (line : Scheduled) → IsScheduled line → bytes ≡ schedule_text_of line → ⊥
 line_none bytes h line fits e = let again = line_again line fits in let same = ap line_of e in cc
-
-pub line_if_none : (bytes : List ℕ) (r : Option Line) → r ≡ line_of bytes → IfNone r ((line : Line) → IsLine line → bytes ≡ line_text line → ⊥)
-line_if_none bytes None e = line_none bytes (sym e)
-line_if_none bytes (Some line) e = tt

@@ -1,8 +1,16 @@
 -- Numbers, bytes and words in a line, and how each is read.
-use Rattle.std.specs.Prelude.{ℕ, ◌+◌, ◌-◌, ◌*◌, ◌/◌, ◌%◌, List, [], ◌∷◌, Bool, true, false, ◌==◌, ◌&&◌, not, nat_lt, nat_le, length, slice_index, if◌then◌else◌, Option, Some, None, codes}
+use Rattle.std.specs.Prelude.{ℕ, ◌<◌, ◌≤◌, ◌+◌, ◌-◌, ◌*◌, ◌/◌, ◌%◌, List, [], ◌∷◌, Bool, true, false, ◌==◌, ◌&&◌, not, nat_lt, nat_le, length, slice_index, if◌then◌else◌, Option, Some, None, codes}
 use Rattle.std.specs.Str.{bytes_eq}
 use Rattle.std.specs.Char.{is_ascii_digit}
-use Rattle.std.specs.List.{flat_map, list_all, slice_split, join_with_byte}
+use Rattle.std.specs.List.{AllByRecursion, flat_map, list_all, slice_split, join_with_byte}
+
+-- bytes are numbers below 256
+abbrev pub AreBytes : List ℕ → Type 0
+AreBytes bytes = AllByRecursion (λ b. b < 256) bytes
+
+-- bytes, so many at least and at most
+abbrev pub HasBytes : ℕ → ℕ → List ℕ → Type 0
+HasBytes least most bytes = (least ≤ length bytes) × (length bytes ≤ most) × AreBytes bytes
 
 -- the byte between two words
 abbrev pub space : ℕ
@@ -18,6 +26,10 @@ pieces bytes = slice_split is_space bytes
 -- words with one space between them
 abbrev pub spaced : List (List ℕ) → List ℕ
 spaced words = join_with_byte space words
+
+abbrev pub none_left : List (List ℕ) → Bool
+none_left [] = true
+none_left (word ∷ words) = false
 
 -- decimal digits without a leading zero
 abbrev pub is_numeral : List ℕ → Bool
@@ -85,11 +97,10 @@ abbrev pub exactly : ℕ → Option (List ℕ) → Option (List ℕ)
 exactly n None = None
 exactly n (Some bytes) = if length bytes == n then Some bytes else None
 
--- the bytes, at least one
-abbrev pub at_least_one : Option (List ℕ) → Option (List ℕ)
-at_least_one None = None
-at_least_one (Some []) = None
-at_least_one (Some (byte ∷ bytes)) = Some (byte ∷ bytes)
+-- the bytes, at least so many
+abbrev pub at_least : ℕ → Option (List ℕ) → Option (List ℕ)
+at_least least None = None
+at_least least (Some bytes) = if nat_le least (length bytes) then Some bytes else None
 
 -- whether a packet was whole, or its data acknowledged: `ok`, or the word for the other case
 abbrev pub fate_of : List ℕ → List ℕ → Option Bool

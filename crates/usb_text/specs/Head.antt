@@ -1,15 +1,19 @@
--- The lines of a job's head: its device descriptor, its configuration and the line that ends it.
-use Rattle.std.specs.Prelude.{ℕ, ◌≤◌, List, [], ◌∷◌, length, codes, if◌then◌else◌, Option, Some, None, ⊤}
+-- The lines of a job's head: its descriptors and strings, and the line that ends it.
+use Rattle.std.specs.Prelude.{ℕ, ◌≤◌, List, [], ◌∷◌, codes, if◌then◌else◌, nat_le, Option, Some, None, ⊤}
 use Rattle.std.specs.Str.{bytes_eq}
+use Rattle.std.specs.Fmt.{decimal}
 use Rattle.usb_text.specs.declared.head.HeadLine.{HeadLine}
-use Rattle.usb_text.specs.declared.head.HeadLine.TheVariants.{Device, Config, Begin}
-use Rattle.usb_text.specs.Field.{pieces, spaced, hex, bytes_in, at_least_one}
-use Rattle.usb_text.specs.Line.{AreBytes}
+use Rattle.usb_text.specs.declared.head.HeadLine.TheVariants.{Device, Config, Text, Report, Begin}
+use Rattle.usb_text.specs.declared.head.HeadKind.{HeadKind}
+use Rattle.usb_text.specs.declared.head.HeadKind.TheVariants as kind
+use Rattle.usb_text.specs.Field.{HasBytes, pieces, spaced, none_left, hex, number_of, bytes_in, at_least}
 
--- `device HEX`, `config HEX`, `begin`
+-- `device HEX`, `config HEX`, `string I HEX`, `report HEX`, `begin`
 abbrev pub head_words : HeadLine → List (List ℕ)
 head_words (Device bytes) = codes "device" ∷ hex bytes.items ∷ []
 head_words (Config bytes) = codes "config" ∷ hex bytes.items ∷ []
+head_words (Text index body) = codes "string" ∷ decimal index ∷ hex body.items ∷ []
+head_words (Report bytes) = codes "report" ∷ hex bytes.items ∷ []
 head_words Begin = codes "begin" ∷ []
 
 -- the text of a line of the head, without the newline that ends it
@@ -23,12 +27,49 @@ most_device = 64
 abbrev pub most_config : ℕ
 most_config = 600
 
+abbrev pub least_text : ℕ
+least_text = 2
+
+abbrev pub most_text : ℕ
+most_text = 60
+
+abbrev pub most_report : ℕ
+most_report = 512
+
+-- the greatest string index (USB 2.0, 9.6.7); index 0 is that of the languages
+abbrev pub most_index : ℕ
+most_index = 255
+
 abbrev pub IsHead : HeadLine → Type 0
-IsHead (Device bytes) = (1 ≤ length bytes.items) × (length bytes.items ≤ most_device) × AreBytes bytes.items
-IsHead (Config bytes) = (1 ≤ length bytes.items) × (length bytes.items ≤ most_config) × AreBytes bytes.items
+IsHead (Device bytes) = HasBytes 1 most_device bytes.items
+IsHead (Config bytes) = HasBytes 1 most_config bytes.items
+IsHead (Text index body) = (1 ≤ index) × (index ≤ most_index) × HasBytes least_text most_text body.items
+IsHead (Report bytes) = HasBytes 1 most_report bytes.items
 IsHead Begin = ⊤
 
 -- how a line of the head is read: by its words
+abbrev pub head_kind_of : List ℕ → Option HeadKind
+head_kind_of name =
+    if bytes_eq name (codes "device") then Some kind.Device
+    else (if bytes_eq name (codes "config") then Some kind.Config
+    else (if bytes_eq name (codes "string") then Some kind.Text
+    else (if bytes_eq name (codes "report") then Some kind.Report
+    else (if bytes_eq name (codes "begin") then Some kind.Begin
+    else None))))
+
+-- exactly one word, exactly two
+abbrev pub one : List (List ℕ) → Option (List ℕ)
+one (a ∷ []) = Some a
+one _ = None
+
+abbrev pub two : List (List ℕ) → Option (List ℕ × List ℕ)
+two (a ∷ b ∷ []) = Some (a, b)
+two _ = None
+
+abbrev pub bytes_word : ℕ → ℕ → Option (List ℕ) → Option (List ℕ)
+bytes_word least most None = None
+bytes_word least most (Some word) = at_least least (bytes_in most word)
+
 abbrev pub of_device : Option (List ℕ) → Option HeadLine
 of_device None = None
 of_device (Some bytes) = Some (Device (record { items = bytes }))
@@ -37,29 +78,36 @@ abbrev pub of_config : Option (List ℕ) → Option HeadLine
 of_config None = None
 of_config (Some bytes) = Some (Config (record { items = bytes }))
 
--- exactly one word
-abbrev pub one : List (List ℕ) → Option (List ℕ)
-one (a ∷ []) = Some a
-one _ = None
+abbrev pub of_report : Option (List ℕ) → Option HeadLine
+of_report None = None
+of_report (Some bytes) = Some (Report (record { items = bytes }))
 
-abbrev pub bytes_word : ℕ → Option (List ℕ) → Option (List ℕ)
-bytes_word most None = None
-bytes_word most (Some word) = at_least_one (bytes_in most word)
+-- a number that isn't 0
+abbrev pub from_one : Option ℕ → Option ℕ
+from_one None = None
+from_one (Some n) = if nat_le 1 n then Some n else None
 
-abbrev pub begin_words : List (List ℕ) → Option HeadLine
-begin_words [] = Some Begin
-begin_words (word ∷ words) = None
+abbrev pub of_text : Option ℕ → Option (List ℕ) → Option HeadLine
+of_text None body = None
+of_text (Some index) None = None
+of_text (Some index) (Some body) = Some (Text index (record { items = body }))
 
-abbrev pub named_head : List ℕ → List (List ℕ) → Option HeadLine
-named_head name fields =
-    if bytes_eq name (codes "device") then of_device (bytes_word most_device (one fields))
-    else (if bytes_eq name (codes "config") then of_config (bytes_word most_config (one fields))
-    else (if bytes_eq name (codes "begin") then begin_words fields
-    else None))
+abbrev pub text_words : Option (List ℕ × List ℕ) → Option HeadLine
+text_words None = None
+text_words (Some w) = of_text (from_one (number_of most_index w.0)) (at_least least_text (bytes_in most_text w.1))
+
+abbrev pub head_fields : Option HeadKind → List (List ℕ) → Option HeadLine
+head_fields None words = None
+head_fields (Some kind.Device) words = of_device (bytes_word 1 most_device (one words))
+head_fields (Some kind.Config) words = of_config (bytes_word 1 most_config (one words))
+head_fields (Some kind.Text) words = text_words (two words)
+head_fields (Some kind.Report) words = of_report (bytes_word 1 most_report (one words))
+head_fields (Some kind.Begin) words = if none_left words then Some Begin else None
 
 abbrev pub head_words_line : List (List ℕ) → Option HeadLine
 head_words_line [] = None
-head_words_line (name ∷ fields) = named_head name fields
+head_words_line (name ∷ words) = head_fields (head_kind_of name) words
 
+-- the line of the head that bytes are the text of
 abbrev pub head_of : List ℕ → Option HeadLine
 head_of bytes = head_words_line (pieces bytes)

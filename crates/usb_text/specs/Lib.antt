@@ -1,6 +1,11 @@
 pub mod Field
 pub mod Words
+pub mod Call
+pub mod Head
+pub mod Reply
+pub mod Scheduled
 pub mod Line
 pub mod Reading
-pub mod Head
 pub mod Plain
+pub mod Rules
+pub mod Lines

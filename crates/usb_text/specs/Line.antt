@@ -1,27 +1,25 @@
 -- The lines of a device's job, each with its one spelling.
-use Rattle.std.specs.Prelude.{◌≡◌, ℕ, ◌<◌, ◌≤◌, List, [], ◌∷◌, ◌++◌, Bool, true, false, length, codes, ⊤}
-use Rattle.std.specs.List.{AllByRecursion}
+use Rattle.std.specs.Prelude.{◌≡◌, ℕ, ◌≤◌, List, [], ◌∷◌, Bool, true, false, length, codes, ⊤}
 use Rattle.std.specs.Fmt.{decimal}
 use Rattle.usb_packet.specs.declared.bus.Toggle.{Toggle}
 use Rattle.usb_packet.specs.declared.bus.Toggle.TheVariants.{D0, D1}
 use Rattle.usb_packet.specs.declared.bus.BusEvent.{BusEvent}
 use Rattle.usb_packet.specs.declared.bus.BusEvent.TheVariants as event
-use Rattle.usb_packet.specs.declared.bus.BusAnswer.{BusAnswer}
-use Rattle.usb_packet.specs.declared.bus.BusAnswer.TheVariants as bus
 use Rattle.usb_text.specs.declared.line.DevLine.{DevLine}
-use Rattle.usb_text.specs.declared.line.DevLine.TheVariants.{Bus, Irq, Task}
+use Rattle.usb_text.specs.declared.line.DevLine.TheVariants.{Bus, Irq, Task, Call}
+use Rattle.usb_text.specs.Scheduled.{Scheduled}
+use Rattle.usb_text.specs.Scheduled as schedule
+use Rattle.usb_text.specs.declared.line.Line.{Line}
+use Rattle.usb_text.specs.declared.line.Line.TheVariants.{Head, Device, End}
 use Rattle.usb_text.specs.declared.line.Answer.{Answer}
 use Rattle.usb_text.specs.declared.line.Answer.TheVariants as answer
-use Rattle.usb_text.specs.declared.line.Line.{Line}
-use Rattle.usb_text.specs.declared.line.Line.TheVariants.{Device, End}
-use Rattle.usb_text.specs.Field.{spaced, hex}
+use Rattle.usb_text.specs.Field.{AreBytes, spaced, hex}
+use Rattle.usb_text.specs.Call.{call_words, IsCall, IsServed}
+use Rattle.usb_text.specs.Head.{head_words, IsHead}
+use Rattle.usb_text.specs.Reply.{bus_words, reply_words, IsBusAnswer, IsReply}
 
 abbrev pub newline : ℕ
 newline = 10
-
--- bytes are numbers below 256
-abbrev pub AreBytes : List ℕ → Type 0
-AreBytes bytes = AllByRecursion (λ b. b < 256) bytes
 
 -- the greatest device address and the greatest endpoint number (USB 2.0, 8.3.2.1 and 8.3.2.2)
 abbrev pub most_address : ℕ
@@ -58,14 +56,24 @@ abbrev pub device_words : DevLine → List (List ℕ)
 device_words (Bus e) = event_words e
 device_words Irq = codes "irq" ∷ []
 device_words Task = codes "task" ∷ []
+device_words (Call call) = call_words call
 
 abbrev pub line_words : Line → List (List ℕ)
+line_words (Head line) = head_words line
 line_words (Device line) = device_words line
 line_words End = codes "end" ∷ []
 
 -- the text of a line, without the newline that ends it
 abbrev pub line_text : Line → List ℕ
 line_text line = spaced (line_words line)
+
+abbrev pub schedule_words_of : Scheduled → List (List ℕ)
+schedule_words_of (schedule.Device line) = device_words line
+schedule_words_of schedule.End = codes "end" ∷ []
+
+-- the same of a line after the head
+abbrev pub schedule_text_of : Scheduled → List ℕ
+schedule_text_of line = spaced (schedule_words_of line)
 
 -- the ranges of a bus event's fields
 abbrev pub IsEvent : BusEvent → Type 0
@@ -74,28 +82,42 @@ IsEvent (event.Setup addr bytes ok) = (addr ≤ most_address) × (length bytes �
 IsEvent (event.Out addr ep toggle packet ok) = (addr ≤ most_address) × (ep ≤ most_endpoint) × (length packet ≤ 64) × AreBytes packet
 IsEvent (event.In addr ep ok) = (addr ≤ most_address) × (ep ≤ most_endpoint)
 
+-- the ranges of a line's fields
+abbrev pub HasRanges : DevLine → Type 0
+HasRanges (Bus e) = IsEvent e
+HasRanges Irq = ⊤
+HasRanges Task = ⊤
+HasRanges (Call call) = IsCall call
+
+abbrev pub IsInRange : Line → Type 0
+IsInRange (Head line) = IsHead line
+IsInRange (Device line) = HasRanges line
+IsInRange End = ⊤
+
+-- it is in range and, where it is a call, one whose class is built
 abbrev pub IsDeviceLine : DevLine → Type 0
 IsDeviceLine (Bus e) = IsEvent e
 IsDeviceLine Irq = ⊤
 IsDeviceLine Task = ⊤
+IsDeviceLine (Call call) = IsServed call × IsCall call
 
 abbrev pub IsLine : Line → Type 0
+IsLine (Head line) = IsHead line
 IsLine (Device line) = IsDeviceLine line
 IsLine End = ⊤
 
--- the text of what a device answers on the bus
-abbrev pub data_text : Toggle → List ℕ
-data_text D0 = codes "data0 "
-data_text D1 = codes "data1 "
+abbrev pub IsScheduled : Scheduled → Type 0
+IsScheduled (schedule.Device line) = IsDeviceLine line
+IsScheduled schedule.End = ⊤
 
-abbrev pub bus_text : BusAnswer → List ℕ
-bus_text bus.Done = codes "ok"
-bus_text bus.Ack = codes "ack"
-bus_text bus.Nak = codes "nak"
-bus_text bus.Stall = codes "stall"
-bus_text bus.NoAnswer = codes "none"
-bus_text (bus.Data toggle packet) = data_text toggle ++ hex packet
+abbrev pub answer_words : Answer → List (List ℕ)
+answer_words (answer.Bus a) = bus_words a
+answer_words (answer.Reply reply) = reply_words reply
 
 -- the text of an answer, without the newline that ends it
 abbrev pub answer_text : Answer → List ℕ
-answer_text (answer.Bus a) = bus_text a
+answer_text a = spaced (answer_words a)
+
+abbrev pub IsAnswer : Answer → Type 0
+IsAnswer (answer.Bus a) = IsBusAnswer a
+IsAnswer (answer.Reply reply) = IsReply reply

@@ -34,7 +34,7 @@ pub fn small_number(word: &[u8], most: u8) -> Option<u8>
 }
 
 /// Whether a word is decimal digits without a leading zero.
-fn is_numeral(word: &[u8]) -> bool
+pub fn is_numeral(word: &[u8]) -> bool
     ensures { result ≡ is_numeral word.now }
 {
     all_digits(word) && !word.is_empty() && !(word[0] == b'0' && word.len() > 1)
@@ -47,7 +47,7 @@ fn all_digits(word: &[u8]) -> bool
 }
 
 /// The number that digits are the text of. Where it is 2^32 or more, so is the result.
-fn value(digits: &[u8]) -> u64
+pub fn value(digits: &[u8]) -> u64
     ensures { min result (2 ^ 32) ≡ min (read_on 0 digits.now) (2 ^ 32) }
 {
     let mut value: u64 = 0;

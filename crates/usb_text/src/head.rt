@@ -1,9 +1,10 @@
-ghost use Rattle.std.specs.Prelude.{◌≡◌, IfSome, IfNone};
+ghost use Rattle.std.specs.Prelude.{◌≡◌, IfOk, IfErr};
 ghost use Rattle.std.specs.Option.{option_map};
 ghost use Rattle.usb_text.specs.declared.head.HeadLine.{HeadLine};
-ghost use Rattle.usb_text.specs.Head.{head_text, IsHead, one, bytes_word, begin_words, named_head, head_of};
+ghost use Rattle.usb_text.specs.Head.{head_text, IsHead, one, two, bytes_word, text_words, from_one, head_kind_of, head_fields, head_of};
+ghost use Rattle.usb_text.specs.Field.{number_of};
 
-use crate::field::read_hex;
+use crate::field::{read_hex, small_number};
 use crate::words::Words;
 use arrayvec::ArrayVec;
 
@@ -14,37 +15,75 @@ pub enum HeadLine {
     Device(ArrayVec<u8, 64>),
     /// The configuration with all that follows its descriptor, 1 to 600 bytes.
     Config(ArrayVec<u8, 600>),
+    /// The line `string`: the string of an index from 1 on, 2 to 60 bytes of UTF-16LE.
+    Text { index: u8, body: ArrayVec<u8, 60> },
+    /// The report descriptor, 1 to 512 bytes.
+    Report(ArrayVec<u8, 512>),
     /// The head's last line.
     Begin,
 }
 
-/// Reads a line of the head. The line has no newline.
-#[tactic(auto, using(crate::proofs::Heads::head_only))]
-pub fn read_head(line: &[u8]) -> Option<HeadLine>
-    ensures found { IfSome result (λ value. (line.now ≡ head_text value) × IsHead value) }
-    ensures none { IfNone result ((value : HeadLine) → IsHead value → line.now ≡ head_text value → ⊥) }
-{
-    read(line)
+/// What a line's first word says that it is.
+#[derive(Clone, Copy)]
+pub enum HeadKind {
+    Device,
+    Config,
+    Text,
+    Report,
+    Begin,
 }
 
-fn read(line: &[u8]) -> Option<HeadLine>
+/// The line of the head that these bytes are the text of.
+pub fn head_of(line: &[u8]) -> Option<HeadLine>
     ensures { result ≡ head_of line.now }
 {
     let mut words = Words::of(line);
     let name = words.next()?;
+    let kind = head_kind_of(name)?;
+    head_fields(kind, &mut words)
+}
+
+/// The kind of line that a first word names.
+pub fn head_kind_of(name: &[u8]) -> Option<HeadKind>
+    ensures { result ≡ head_kind_of name.now }
+{
     if name == b"device".as_slice() {
-        let bytes = some_bytes::<64>(&mut words)?;
-        Some(HeadLine::Device(bytes))
+        Some(HeadKind::Device)
     } else if name == b"config".as_slice() {
-        let bytes = some_bytes::<600>(&mut words)?;
-        Some(HeadLine::Config(bytes))
+        Some(HeadKind::Config)
+    } else if name == b"string".as_slice() {
+        Some(HeadKind::Text)
+    } else if name == b"report".as_slice() {
+        Some(HeadKind::Report)
     } else if name == b"begin".as_slice() {
-        match words.next() {
-            None => Some(HeadLine::Begin),
-            Some(_) => None,
-        }
+        Some(HeadKind::Begin)
     } else {
         None
+    }
+}
+
+/// Reads the words after a line's name.
+fn head_fields(kind: HeadKind, words: &mut Words<'_>) -> Option<HeadLine>
+    ensures { result ≡ head_fields (Some kind) words.old }
+{
+    match kind {
+        HeadKind::Device => {
+            let bytes = some_bytes::<64>(words)?;
+            Some(HeadLine::Device(bytes))
+        }
+        HeadKind::Config => {
+            let bytes = some_bytes::<600>(words)?;
+            Some(HeadLine::Config(bytes))
+        }
+        HeadKind::Text => read_text(words),
+        HeadKind::Report => {
+            let bytes = some_bytes::<512>(words)?;
+            Some(HeadLine::Report(bytes))
+        }
+        HeadKind::Begin => match words.next() {
+            None => Some(HeadLine::Begin),
+            Some(_) => None,
+        },
     }
 }
 
@@ -61,9 +100,43 @@ fn one<'a>(words: &mut Words<'a>) -> Option<&'a [u8]>
 
 /// The bytes, 1 to `N`, of the one word that is left.
 fn some_bytes<const N: usize>(words: &mut Words<'_>) -> Option<ArrayVec<u8, N>>
-    ensures { option_map (λ v. v.items) result ≡ bytes_word N (one words.old) }
+    ensures { option_map (λ v. v.items) result ≡ bytes_word 1 N (one words.old) }
 {
     let word = one(words)?;
     let bytes = read_hex(word)?;
     if bytes.is_empty() { None } else { Some(bytes) }
+}
+
+/// The words that are left, where they are two.
+fn two<'a>(words: &mut Words<'a>) -> Option<(&'a [u8], &'a [u8])>
+    ensures { option_map (λ w. (w.0.now, w.1.now)) result ≡ two words.old }
+{
+    let a = words.next()?;
+    let b = words.next()?;
+    match words.next() {
+        None => Some((a, b)),
+        Some(_) => None,
+    }
+}
+
+/// `string I HEX`
+fn read_text(words: &mut Words<'_>) -> Option<HeadLine>
+    ensures { result ≡ text_words (two words.old) }
+{
+    let (index, body) = two(words)?;
+    let index = index_of(index)?;
+    let body = read_hex::<60>(body)?;
+    if body.len() < 2 {
+        None
+    } else {
+        Some(HeadLine::Text { index, body })
+    }
+}
+
+/// A string's index, 1 to 255.
+fn index_of(word: &[u8]) -> Option<u8>
+    ensures { result ≡ from_one (number_of 255 word.now) }
+{
+    let n = small_number(word, 255)?;
+    if n == 0 { None } else { Some(n) }
 }

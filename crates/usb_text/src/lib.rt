@@ -1,14 +1,28 @@
 //! The lines of a job and of its answers: one spelling for each value.
 #![tactic(auto)]
 
+mod call;
 mod field;
 mod head;
 mod laws;
 mod line;
 mod print;
+mod reading;
+mod reply;
+mod rules;
+mod show;
+mod show_call;
 mod words;
 
-pub use head::{HeadLine, read_head};
-pub use laws::one_spelling;
-pub use line::{Answer, DevLine, Line, read_schedule};
-pub use print::{MOST_ANSWER, push_answer};
+pub use call::DevCall;
+pub use head::HeadLine;
+pub use laws::{one_spelling, texts_keep_rules};
+pub use line::{Answer, DevLine, Line, ScheduleLine, ServedLine};
+pub use reading::{read_head, read_line, read_schedule};
+pub use reply::{MOST_ANSWER, answer_text, push_bus_line, push_reply_line};
+pub use rules::{LineFault, MOST_LINE, Mode, Place, lowest_rule};
+pub use show::{head_text, line_text};
+pub use show_call::call_text;
+
+#[cfg(test)]
+mod tests;

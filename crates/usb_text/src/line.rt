@@ -1,59 +1,100 @@
-ghost use Rattle.std.specs.Prelude.{◌≡◌, codes, IfSome, IfNone};
+ghost use Rattle.std.specs.Prelude.{◌≡◌, codes};
 ghost use Rattle.std.specs.Option.{option_map};
-ghost use Rattle.usb_text.specs.Field.{number_of, bytes_in, exactly, fate_of};
-ghost use Rattle.usb_text.specs.declared.line.Line.{Line};
-ghost use Rattle.usb_text.specs.Line.{most_address, most_endpoint, bad, noack, line_text, IsLine};
-ghost use Rattle.usb_text.specs.Reading.{kind_of, none_left, three, five, toggle_of, setup_words, out_words, in_words, alone, fields_line, line_of};
+ghost use Rattle.usb_text.specs.Field.{none_left, number_of, bytes_in, exactly, fate_of};
+ghost use Rattle.usb_text.specs.Scheduled.{scheduled, device_line};
+ghost use Rattle.usb_text.specs.Line.{most_address, most_endpoint, bad, noack};
+ghost use Rattle.usb_text.specs.Reading.{kind_of, three, five, toggle_of, setup_words, out_words, in_words, alone, fields_line, line_of};
 
+use crate::call::DevCall;
 use crate::field::{read_hex, small_number};
+use crate::head::HeadLine;
 use crate::words::Words;
 use usb_packet::{BusAnswer, BusEvent, Packet, Toggle};
+use usb_pipe::Reply;
 
-/// A line of a device's schedule: what happens on the bus, one handler run, or one task run.
+/// The greatest device address (USB 2.0, 8.3.2.1).
+const MOST_ADDRESS: u8 = 127;
+
+/// The greatest endpoint number (USB 2.0, 8.3.2.2).
+const MOST_ENDPOINT: u8 = 15;
+
+/// A line of a device's schedule: what happens on the bus, one handler run, one task run, or one call.
 #[derive(Drop)]
 pub enum DevLine {
     Bus(BusEvent),
     Irq,
     Task,
+    Call(DevCall),
 }
 
-/// The answer to a line.
+/// The answer to a line: what the device answers on the bus, or what a call is answered. Handler runs and
+/// task runs are answered `Bus(Done)`.
 #[derive(Drop)]
 pub enum Answer {
     Bus(BusAnswer),
+    Reply(Reply),
 }
 
-/// A line of a job after its head.
+/// A line of a job.
 #[derive(Drop)]
 pub enum Line {
+    /// A line of the job's head.
+    Head(HeadLine),
+    /// A line of a device's schedule.
     Device(DevLine),
     /// The job's last line.
     End,
 }
 
+/// A line of a schedule that is served today. It is small, since a run reads one for each line, where `DevLine` has room
+/// for all bytes that a call may give.
+#[derive(Drop)]
+pub enum ServedLine {
+    Bus(BusEvent),
+    Irq,
+    Task,
+    /// The call `state`.
+    State,
+}
+
+impl ServedLine {
+    /// The same as a line of a device's schedule.
+    pub fn into_line(self) -> DevLine
+        ensures { result ≡ device_line self }
+    {
+        match self {
+            ServedLine::Bus(event) => DevLine::Bus(event),
+            ServedLine::Irq => DevLine::Irq,
+            ServedLine::Task => DevLine::Task,
+            ServedLine::State => DevLine::Call(DevCall::State),
+        }
+    }
+}
+
+/// A line of a job after its head.
+#[derive(Drop)]
+pub enum ScheduleLine {
+    Served(ServedLine),
+    /// The job's last line.
+    End,
+}
+
 /// What a line's first word says that it is.
-#[derive(Clone, Copy, PartialEq, Eq, Debug)]
-enum Kind {
+#[derive(Clone, Copy)]
+pub enum Kind {
     Reset,
     Irq,
     Task,
+    State,
     End,
     Setup,
     Out,
     In,
 }
 
-/// Reads a line of the schedule, or its `end`. The line has no newline.
-#[tactic(auto, using(crate::proofs::Read::line_only))]
-pub fn read_schedule(line: &[u8]) -> Option<Line>
-    ensures found { IfSome result (λ value. (line.now ≡ line_text value) × IsLine value) }
-    ensures none { IfNone result ((value : Line) → IsLine value → line.now ≡ line_text value → ⊥) }
-{
-    read(line)
-}
-
-fn read(line: &[u8]) -> Option<Line>
-    ensures { result ≡ line_of line.now }
+/// The line of the schedule that these bytes are the text of.
+pub fn line_of(line: &[u8]) -> Option<ScheduleLine>
+    ensures { option_map scheduled result ≡ line_of line.now }
 {
     let mut words = Words::of(line);
     let name = words.next()?;
@@ -61,7 +102,8 @@ fn read(line: &[u8]) -> Option<Line>
     read_fields(kind, &mut words)
 }
 
-fn kind_of(name: &[u8]) -> Option<Kind>
+/// The kind of line that a first word names.
+pub fn kind_of(name: &[u8]) -> Option<Kind>
     ensures { result ≡ kind_of name.now }
 {
     if name == b"in".as_slice() {
@@ -78,20 +120,26 @@ fn kind_of(name: &[u8]) -> Option<Kind>
         Some(Kind::Reset)
     } else if name == b"end".as_slice() {
         Some(Kind::End)
+    } else if name == b"state".as_slice() {
+        Some(Kind::State)
     } else {
         None
     }
 }
 
 /// Reads the words after a line's name.
-fn read_fields(kind: Kind, words: &mut Words<'_>) -> Option<Line>
-    ensures { result ≡ fields_line (Some kind) words.old }
+fn read_fields(kind: Kind, words: &mut Words<'_>) -> Option<ScheduleLine>
+    ensures { option_map scheduled result ≡ fields_line (Some kind) words.old }
 {
     match kind {
-        Kind::Reset => alone(words, Line::Device(DevLine::Bus(BusEvent::Reset))),
-        Kind::Irq => alone(words, Line::Device(DevLine::Irq)),
-        Kind::Task => alone(words, Line::Device(DevLine::Task)),
-        Kind::End => alone(words, Line::End),
+        Kind::Reset => alone(
+            words,
+            ScheduleLine::Served(ServedLine::Bus(BusEvent::Reset)),
+        ),
+        Kind::Irq => alone(words, ScheduleLine::Served(ServedLine::Irq)),
+        Kind::Task => alone(words, ScheduleLine::Served(ServedLine::Task)),
+        Kind::State => alone(words, ScheduleLine::Served(ServedLine::State)),
+        Kind::End => alone(words, ScheduleLine::End),
         Kind::Setup => read_setup(words),
         Kind::Out => read_out(words),
         Kind::In => read_in(words),
@@ -99,8 +147,8 @@ fn read_fields(kind: Kind, words: &mut Words<'_>) -> Option<Line>
 }
 
 /// The line, where no word is left.
-fn alone(words: &mut Words<'_>, line: Line) -> Option<Line>
-    ensures { result ≡ alone words.old line }
+fn alone(words: &mut Words<'_>, line: ScheduleLine) -> Option<ScheduleLine>
+    ensures { option_map scheduled result ≡ alone words.old (scheduled line) }
 {
     match words.next() {
         None => Some(line),
@@ -122,14 +170,14 @@ fn three<'a>(words: &mut Words<'a>) -> Option<(&'a [u8], &'a [u8], &'a [u8])>
 }
 
 /// `setup ADDR HEX FATE`
-fn read_setup(words: &mut Words<'_>) -> Option<Line>
-    ensures { result ≡ setup_words (three words.old) }
+fn read_setup(words: &mut Words<'_>) -> Option<ScheduleLine>
+    ensures { option_map scheduled result ≡ setup_words (three words.old) }
 {
     let (addr, bytes, fate) = three(words)?;
-    let addr = small_number(addr, 127)?;
+    let addr = small_number(addr, MOST_ADDRESS)?;
     let bytes = eight(bytes)?;
     let ok = fate_of(fate, b"bad")?;
-    Some(Line::Device(DevLine::Bus(BusEvent::Setup { addr, bytes, ok })))
+    Some(ScheduleLine::Served(ServedLine::Bus(BusEvent::Setup { addr, bytes, ok })))
 }
 
 /// The words that are left, where they are five.
@@ -149,16 +197,16 @@ fn five<'a>(words: &mut Words<'a>) -> Option<(&'a [u8], &'a [u8], &'a [u8], &'a 
 }
 
 /// `out ADDR EP T HEX FATE`
-fn read_out(words: &mut Words<'_>) -> Option<Line>
-    ensures { result ≡ out_words (five words.old) }
+fn read_out(words: &mut Words<'_>) -> Option<ScheduleLine>
+    ensures { option_map scheduled result ≡ out_words (five words.old) }
 {
     let (addr, ep, toggle, bytes, fate) = five(words)?;
-    let addr = small_number(addr, 127)?;
-    let ep = small_number(ep, 15)?;
+    let addr = small_number(addr, MOST_ADDRESS)?;
+    let ep = small_number(ep, MOST_ENDPOINT)?;
     let toggle = toggle_of(toggle)?;
     let packet = packet(bytes)?;
     let ok = fate_of(fate, b"bad")?;
-    Some(Line::Device(DevLine::Bus(BusEvent::Out {
+    Some(ScheduleLine::Served(ServedLine::Bus(BusEvent::Out {
         addr,
         ep,
         toggle,
@@ -168,14 +216,14 @@ fn read_out(words: &mut Words<'_>) -> Option<Line>
 }
 
 /// `in ADDR EP FATE`
-fn read_in(words: &mut Words<'_>) -> Option<Line>
-    ensures { result ≡ in_words (three words.old) }
+fn read_in(words: &mut Words<'_>) -> Option<ScheduleLine>
+    ensures { option_map scheduled result ≡ in_words (three words.old) }
 {
     let (addr, ep, fate) = three(words)?;
-    let addr = small_number(addr, 127)?;
-    let ep = small_number(ep, 15)?;
+    let addr = small_number(addr, MOST_ADDRESS)?;
+    let ep = small_number(ep, MOST_ENDPOINT)?;
     let ok = fate_of(fate, b"noack")?;
-    Some(Line::Device(DevLine::Bus(BusEvent::In { addr, ep, ok })))
+    Some(ScheduleLine::Served(ServedLine::Bus(BusEvent::In { addr, ep, ok })))
 }
 
 /// The eight bytes that a word is the text of.

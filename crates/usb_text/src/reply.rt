@@ -1,0 +1,224 @@
+ghost use Rattle.std.specs.Prelude.{◌≡◌, ◌+◌, ◌*◌, ◌≤◌, [], ◌∷◌, ◌++◌, length, codes};
+ghost use Rattle.arrayvec.specs.ArrayVec.{array_vec_len};
+ghost use Rattle.std.specs.Fmt.{decimal};
+ghost use Rattle.usb_text.specs.Field.{spaced, hex};
+ghost use Rattle.usb_text.specs.declared.line.Answer.TheVariants.{Bus as TheBus, Reply as TheReply};
+ghost use Rattle.usb_text.specs.Line.{answer_words, answer_text, newline};
+ghost use Rattle.usb_text.specs.Reply.{data_name, bus_words, host_words, reply_words};
+
+use crate::line::Answer;
+use crate::print::{push_bytes, push_hex, push_number, push_text, push_wide, push_word};
+use arrayvec::ArrayVec;
+use usb_packet::{BusAnswer, Packet, Toggle};
+use usb_pipe::{HostWord, Reply};
+
+/// The most bytes that an answer's line has, with its newline: `passed` with 4,096 bytes.
+pub const MOST_ANSWER: usize = 8200;
+
+/// Appends the line of what a device answers on the bus, with its newline. A run appends this, and a reply, without an
+/// `Answer`, which has room for the longest one.
+pub fn push_bus_line<const N: usize>(out: &mut ArrayVec<u8, N>, answer: &BusAnswer)
+    requires { array_vec_len out.old + MOST_ANSWER ≤ N }
+    ensures items { out.new.items ≡ out.old.items ++ (answer_text (TheBus answer.now) ++ newline ∷ []) }
+    ensures length { array_vec_len out.new ≤ array_vec_len out.old + MOST_ANSWER }
+{
+    push_bus(out, answer);
+    out.push(b'\n');
+}
+
+/// Appends the line of a reply, with its newline.
+pub fn push_reply_line<const N: usize>(out: &mut ArrayVec<u8, N>, reply: &Reply)
+    requires { array_vec_len out.old + MOST_ANSWER ≤ N }
+    ensures items { out.new.items ≡ out.old.items ++ (answer_text (TheReply reply.now) ++ newline ∷ []) }
+    ensures length { array_vec_len out.new ≤ array_vec_len out.old + MOST_ANSWER }
+{
+    push_reply(out, reply);
+    out.push(b'\n');
+}
+
+/// An answer's text, without the newline that ends its line.
+pub fn answer_text(answer: &Answer) -> ArrayVec<u8, 8400>
+    ensures { result.items ≡ answer_text answer.now }
+{
+    let mut out = ArrayVec::new();
+    push_words(&mut out, answer);
+    out
+}
+
+fn push_words<const N: usize>(out: &mut ArrayVec<u8, N>, answer: &Answer)
+    requires { array_vec_len out.old + 8199 ≤ N }
+    ensures items { out.new.items ≡ out.old.items ++ spaced (answer_words answer.now) }
+    ensures length { array_vec_len out.new ≤ array_vec_len out.old + 8199 }
+{
+    match answer {
+        Answer::Bus(answer) => push_bus(out, answer),
+        Answer::Reply(reply) => push_reply(out, reply),
+    }
+}
+
+fn push_bus<const N: usize>(out: &mut ArrayVec<u8, N>, answer: &BusAnswer)
+    requires { array_vec_len out.old + 8199 ≤ N }
+    ensures items { out.new.items ≡ out.old.items ++ spaced (bus_words answer.now) }
+    ensures length { array_vec_len out.new ≤ array_vec_len out.old + 8199 }
+{
+    match answer {
+        BusAnswer::Done => push_text(out, b"ok"),
+        BusAnswer::Ack => push_text(out, b"ack"),
+        BusAnswer::Nak => push_text(out, b"nak"),
+        BusAnswer::Stall => push_text(out, b"stall"),
+        BusAnswer::NoAnswer => push_text(out, b"none"),
+        BusAnswer::Data(toggle, packet) => push_data(out, *toggle, packet),
+    }
+}
+
+/// `data0 HEX` or `data1 HEX`
+fn push_data<const N: usize>(out: &mut ArrayVec<u8, N>, toggle: Toggle, packet: &Packet)
+    requires { array_vec_len out.old + 8199 ≤ N }
+    ensures items { out.new.items ≡ out.old.items ++ spaced (data_name toggle ∷ hex packet.now ∷ []) }
+    ensures length { array_vec_len out.new ≤ array_vec_len out.old + 8199 }
+{
+    match toggle {
+        Toggle::D0 => named_bytes(out, b"data0", packet.bytes()),
+        Toggle::D1 => named_bytes(out, b"data1", packet.bytes()),
+    }
+}
+
+fn push_reply<const N: usize>(out: &mut ArrayVec<u8, N>, reply: &Reply)
+    requires { array_vec_len out.old + 8199 ≤ N }
+    ensures items { out.new.items ≡ out.old.items ++ spaced (reply_words reply.now) }
+    ensures length { array_vec_len out.new ≤ array_vec_len out.old + 8199 }
+{
+    match reply {
+        Reply::Done => push_text(out, b"done"),
+        Reply::Took(n) => named_number(out, b"took", *n),
+        Reply::Got(bytes) => named_bytes(out, b"got", bytes.as_slice()),
+        Reply::Held(n) => named_number(out, b"held", *n),
+        Reply::Events(bytes) => named_bytes(out, b"events", bytes.as_slice()),
+        Reply::Report(bytes) => named_bytes(out, b"report", bytes.as_slice()),
+        Reply::SetReport(kind, bytes) => push_set(out, *kind, bytes.as_slice()),
+        Reply::Idle(rate, protocol) => two_numbers(out, b"idle", *rate, *protocol),
+        Reply::LineIs(rate, stop, parity, bits, dtr, rts) => {
+            push_line(out, *rate, *stop, *parity, *bits);
+            push_number(out, u16::from(*dtr));
+            push_number(out, u16::from(*rts));
+        }
+        Reply::Serial(bits) => named_number(out, b"serial", *bits),
+        Reply::Started => push_text(out, b"started"),
+        Reply::Running => push_text(out, b"running"),
+        Reply::Passed(bytes) => named_bytes(out, b"passed", bytes.as_slice()),
+        Reply::ControlPassed => push_text(out, b"passed"),
+        Reply::Failed(residue) => push_failed(out, *residue),
+        Reply::Phase => push_text(out, b"phase"),
+        Reply::Stalled => push_text(out, b"stalled"),
+        Reply::NoReply => push_text(out, b"noreply"),
+        Reply::Halted => push_text(out, b"halted"),
+        Reply::Dead => push_text(out, b"dead"),
+        Reply::Busy => push_text(out, b"busy"),
+        Reply::BadLength => push_text(out, b"badlength"),
+        Reply::NoPipe => push_text(out, b"nopipe"),
+        Reply::Nothing => push_text(out, b"none"),
+        Reply::Closed => push_text(out, b"closed"),
+        Reply::Core(addr, configured) => two_numbers(out, b"state", *addr, *configured),
+        Reply::Host(word) => push_host(out, *word),
+    }
+}
+
+/// The state of a host's core.
+fn push_host<const N: usize>(out: &mut ArrayVec<u8, N>, word: HostWord)
+    requires { array_vec_len out.old + 8199 ≤ N }
+    ensures items { out.new.items ≡ out.old.items ++ spaced (host_words word) }
+    ensures length { array_vec_len out.new ≤ array_vec_len out.old + 8199 }
+{
+    match word {
+        HostWord::Empty => push_text(out, b"empty"),
+        HostWord::Waiting => push_text(out, b"waiting"),
+        HostWord::Mounted => push_text(out, b"mounted"),
+        HostWord::NoReply(stage) => push_fault(out, b"noreply", u16::from(stage)),
+        HostWord::Stalled(stage) => push_fault(out, b"stalled", u16::from(stage)),
+        HostWord::BadSet(rule) => push_fault(out, b"badset", u16::from(rule)),
+        HostWord::TooLarge(total) => push_fault(out, b"toolarge", total),
+    }
+}
+
+/// `fault NAME N`
+fn push_fault<const N: usize>(out: &mut ArrayVec<u8, N>, name: &[u8], n: u16)
+    requires room { array_vec_len out.old + 8199 ≤ N }
+    requires name { length name.now ≤ 16 }
+    ensures items { out.new.items ≡ out.old.items ++ spaced (codes "fault" ∷ name.now ∷ decimal n ∷ []) }
+    ensures length { array_vec_len out.new ≤ array_vec_len out.old + 8199 }
+{
+    push_text(out, b"fault");
+    push_word(out, name);
+    push_number(out, n);
+}
+
+/// `NAME N`
+fn named_number<const N: usize>(out: &mut ArrayVec<u8, N>, name: &[u8], n: u16)
+    requires room { array_vec_len out.old + 8199 ≤ N }
+    requires name { length name.now ≤ 16 }
+    ensures items { out.new.items ≡ out.old.items ++ spaced (name.now ∷ decimal n ∷ []) }
+    ensures length { array_vec_len out.new ≤ array_vec_len out.old + 8199 }
+{
+    push_text(out, name);
+    push_number(out, n);
+}
+
+/// `NAME M N`
+fn two_numbers<const N: usize>(out: &mut ArrayVec<u8, N>, name: &[u8], m: u8, n: u8)
+    requires room { array_vec_len out.old + 8199 ≤ N }
+    requires name { length name.now ≤ 16 }
+    ensures items { out.new.items ≡ out.old.items ++ spaced (name.now ∷ decimal m ∷ decimal n ∷ []) }
+    ensures length { array_vec_len out.new ≤ array_vec_len out.old + 8199 }
+{
+    push_text(out, name);
+    push_number(out, u16::from(m));
+    push_number(out, u16::from(n));
+}
+
+/// `NAME HEX`
+fn named_bytes<const N: usize>(out: &mut ArrayVec<u8, N>, name: &[u8], bytes: &[u8])
+    requires room { array_vec_len out.old + 8199 ≤ N }
+    requires name { length name.now ≤ 6 }
+    requires bytes { length bytes.now ≤ 4096 }
+    ensures items { out.new.items ≡ out.old.items ++ spaced (name.now ∷ hex bytes.now ∷ []) }
+    ensures length { array_vec_len out.new ≤ array_vec_len out.old + 8199 }
+{
+    push_text(out, name);
+    out.push(b' ');
+    push_hex(out, bytes);
+}
+
+/// `set TYPE HEX`
+fn push_set<const N: usize>(out: &mut ArrayVec<u8, N>, kind: u8, bytes: &[u8])
+    requires room { array_vec_len out.old + 8199 ≤ N }
+    requires bytes { length bytes.now ≤ 64 }
+    ensures items { out.new.items ≡ out.old.items ++ spaced (codes "set" ∷ decimal kind ∷ hex bytes.now ∷ []) }
+    ensures length { array_vec_len out.new ≤ array_vec_len out.old + 8199 }
+{
+    push_text(out, b"set");
+    push_number(out, u16::from(kind));
+    push_bytes(out, bytes);
+}
+
+/// `failed RESIDUE`
+fn push_failed<const N: usize>(out: &mut ArrayVec<u8, N>, residue: u32)
+    requires { array_vec_len out.old + 8199 ≤ N }
+    ensures items { out.new.items ≡ out.old.items ++ spaced (codes "failed" ∷ decimal residue ∷ []) }
+    ensures length { array_vec_len out.new ≤ array_vec_len out.old + 8199 }
+{
+    push_text(out, b"failed");
+    push_wide(out, residue);
+}
+
+/// `line RATE STOP PARITY BITS`
+fn push_line<const N: usize>(out: &mut ArrayVec<u8, N>, rate: u32, stop: u8, parity: u8, bits: u8)
+    requires { array_vec_len out.old + 8199 ≤ N }
+    ensures items { out.new.items ≡ out.old.items ++ spaced (codes "line" ∷ decimal rate ∷ decimal stop ∷ decimal parity ∷ decimal bits ∷ []) }
+    ensures length { array_vec_len out.new ≤ array_vec_len out.old + 64 }
+{
+    push_text(out, b"line");
+    push_wide(out, rate);
+    push_number(out, u16::from(stop));
+    push_number(out, u16::from(parity));
+    push_number(out, u16::from(bits));
+}
