@@ -1,2 +1,3 @@
 pub mod Answers
-pub mod Cut
+pub mod Closed
+pub mod Outcomes
