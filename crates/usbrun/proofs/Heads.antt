@@ -1,184 +1,159 @@
 -- A head, line by line.
-use Rattle.std.proofs.Common.{◌≡◌, ℕ, ◌+◌, ◌*◌, ◌≤◌, ◌<◌, List, [], ◌∷◌, ◌++◌, true, length, take, drop, refl, ap, sym, ◌∙◌, subst, append_assoc, arith, length-append, Option, Some, None, IsTrue}
-use Rattle.std.proofs.lemmas.List.{append-nil}
-use Rattle.arrayvec.specs.ArrayVec.{ArrayVec}
-use Rattle.usb_edge.specs.Stream.{IsAtEnd}
-use Rattle.usb_edge.proofs.Streams.{reads-more, rose_within}
+use Rattle.std.proofs.Common.{◌≡◌, ℕ, ◌+◌, ◌≤◌, ◌<◌, List, [], ◌∷◌, ◌++◌, true, false, length, take, drop, refl, ap, sym, ◌∙◌, subst, append_assoc, arith, length-append, Option, Some, None, inl}
+use Rattle.std.proofs.lemmas.List.{append-nil, length-take-le}
+use Rattle.std.proofs.lemmas.Bool.Decides.{nat_tests}
+use Rattle.usb_edge.specs.Stream.{IsAtEnd, Rose}
+use Rattle.usb_edge.proofs.Streams.{rose_within}
 use Rattle.usb_text.specs.declared.head.HeadLine.{HeadLine}
-use Rattle.usb_text.specs.declared.head.HeadLine.TheVariants.{Device, Config, Begin}
+use Rattle.usb_text.specs.declared.rules.Mode.{Mode}
+use Rattle.usb_text.specs.declared.rules.Mode.TheVariants as mode
+use Rattle.usb_text.specs.declared.rules.Place.{Place}
+use Rattle.usb_text.specs.declared.rules.Place.TheVariants as place
 use Rattle.usb_text.specs.Line.{newline}
-use Rattle.usb_text.specs.Field.{hex}
 use Rattle.usb_text.specs.Head.{head_text, IsHead}
 use Rattle.usb_text.specs.Plain.{is_plain}
-use Rattle.usb_text.proofs.Plain.{head_is_plain, head_is_short, length-pairs}
-use Rattle.device_schedule.specs.Job.{head_lines, is_descriptor, IsLineEnd}
-use Rattle.device_schedule.proofs.Cut.{no_newline, plain_rest, cut_line, cut, align_head, head_then}
-use Rattle.usbrun.specs.Stream.{Fills, IsLineBreak, bytes_left, most_line}
+use Rattle.usb_text.specs.Rules.{lowest, most_line, rule_1}
+use Rattle.device_schedule.specs.Job.{closed, head_line, head_lines, is_whole}
+use Rattle.device_schedule.proofs.Closed.{closed_heads, begins}
+use Rattle.usbrun.specs.Stream.{bytes_left}
+use Rattle.usbrun.specs.Lines.{Finds, IsLineAt, Gone, IsCut, size_of}
+use Rattle.usbrun.specs.Draft.{new_draft, accepts, with_head, is_whole as is_whole_stage}
+use Rattle.usbrun.specs.Head.{new_lines, most_heads, TakesHead, BreaksHead, HeadCause, FailsHead, HeadSoFar, HeadStops}
+use Rattle.usbrun.specs.declared.lines.Lines.{Lines}
+use Rattle.usbrun.specs.declared.draft.Draft.{Draft}
 use Rattle.usbrun.specs.declared.head.NoHead.{NoHead}
-use Rattle.usbrun.specs.declared.head.NoHead.TheVariants.{Refused, ReadFault}
-use Rattle.usbrun.specs.Head.{AnyLine, IsGoodDevice, IsConfig, IsBegin, TakesHead, RefusesHead, FailsHead, TakesHeads, FailsHeads}
+use Rattle.usbrun.specs.declared.head.NoHead.TheVariants.{Refused, Short, ReadFault}
+use Rattle.usbrun.proofs.Gone.{line_at, line_taken, line_size, gone_nothing, gone_found, gone_more}
+use Rattle.usbrun.proofs.Drafts.{accepts_in_order, draft_whole, draft_none, draft_more, so_far-more, rises_more, nearer, rank_most}
 
--- bytes read later stand behind those read before
-joined : (x y z l : List ℕ) → x ++ ((y ++ z) ++ l) ≡ (x ++ y) ++ (z ++ l)
-joined x y z l = simp append_assoc
+-- a line that was read and has its place
+pub head_taken : (line : HeadLine) (draft : Draft) (n : ℕ) (left left' : Option (List ℕ)) (old s new : Lines) → Finds left left' old s → IsLineAt n s
+    → take n s.reader ≡ head_text line → IsHead line → accepts draft.stage (length draft.strings.items) line ≡ true
+    → new.reader ≡ drop (n + 1) s.reader → new.ended ≡ s.ended → new.count ≡ s.count + size_of n s.reader → new.lines ≡ s.lines + 1
+    → length (head_text line) ≤ most_line → TakesHead line draft left left' old new
+head_taken line draft n left left' old s new f h text fits accepted reader ended count lines short = record {
+  fits = fits;
+  accepted = accepted;
+  gone = subst (λ (t : List ℕ). Gone left left' old new (t ++ newline ∷ []) 1) text (line_taken n left left' old s new f h reader ended count lines);
+  size = omega (arith, count, f.count, ap length text, short, length_of n s.reader h.within);
+  more = omega (arith, count, f.count, line_size n s h);
+} where
+  length_of : (n : ℕ) (bytes : List ℕ) → n ≤ length bytes → length (take n bytes) ≡ n
+  length_of n bytes le = length-take-le n bytes le
 
--- what follows a line that was taken
-behind : (text rest more : List ℕ) → (text ++ newline ∷ rest) ++ more ≡ text ++ newline ∷ (rest ++ more)
-behind text rest more = append_assoc text (newline ∷ rest) more
-
--- the line that was taken is the one line with which the bytes begin
-pub taken_line : (line other : HeadLine) (left left' : Option (List ℕ)) (ahead ahead' more rest : List ℕ) (t : TakesHead line left left' ahead ahead') → IsHead other
-    → ahead ++ (t.got ++ more) ≡ head_text other ++ newline ∷ rest → (line ≡ other) × (ahead' ++ more ≡ rest)
-taken_line line other left left' ahead ahead' more rest t h e =
-    align_head line other (ahead' ++ more) rest t.fits h
-    (sym (behind (head_text line) ahead' more) ∙ ap (λ x. x ++ more) (sym t.text) ∙ append_assoc ahead t.got more ∙ e)
-
--- a line was taken that is not the one wanted
-pub other_line : (P : HeadLine → Type 0) (line : HeadLine) (left left' : Option (List ℕ)) (ahead ahead' : List ℕ)
-    → TakesHead line left left' ahead ahead' → (P line → ⊥) → RefusesHead P left left' ahead
-other_line P line left left' ahead ahead' t wrong = record {
-  got = t.got;
-  reads = t.reads;
-  none = λ other rest h p e.
-      let r = taken_line line other left left' ahead ahead' (bytes_left left') rest t h e in
-      wrong (subst P (sym r.0) p);
+-- a line that breaks a rule
+pub head_refused : (rule : ℕ) (draft : Draft) (n : ℕ) (left left' : Option (List ℕ)) (faults faults' : ℕ) (old s : Lines) → Finds left left' old s → IsLineAt n s
+    → (s.ended ≡ true → IsAtEnd left') → BreaksHead draft (take n s.reader) rule → FailsHead (Refused rule) draft left left' faults faults' old s
+head_refused rule draft n left left' faults faults' old s f h ends broken = record {
+  finds = f;
+  cause = (take n s.reader, closed (drop (n + 1) s.reader ++ bytes_left left'), (line_at n s left' h ends).text, h.plain, broken);
+  cut = λ e. absurd (cc (e));
 }
 
--- no line at all is none of those wanted
-pub no_line : (P : HeadLine → Type 0) (e : NoHead) (left left' : Option (List ℕ)) (faults faults' : ℕ) (ahead : List ℕ)
-    → FailsHead AnyLine e left left' faults faults' ahead → FailsHead P e left left' faults faults' ahead
-no_line P Refused left left' faults faults' ahead r = record { got = r.got; reads = r.reads; none = λ line rest h p e. r.none line rest h tt e }
-no_line P ReadFault left left' faults faults' ahead rose = rose
+-- more bytes than a line has
+long_breaks : (m : Mode) (p : Place) (bytes : List ℕ) → most_line < length bytes → lowest m p bytes ≡ Some 1
+long_breaks m p bytes long = let no : rule_1 bytes ≡ false = grind (arith, nat_tests) in rw no refl
 
-pub at_end_left : (left : Option (List ℕ)) → IsAtEnd left → bytes_left left ≡ []
-at_end_left None h = refl
-at_end_left (Some l) h = h
+pub too_long : (m : Mode) (p : Place) (s : Lines) (left : Option (List ℕ)) → is_plain s.reader ≡ true → most_line < length s.reader
+    → (bytes tail : List ℕ) × (closed (s.reader ++ bytes_left left) ≡ bytes ++ newline ∷ tail) × (is_plain bytes ≡ true) × (lowest m p bytes ≡ Some 1)
+too_long m p s left plain long =
+    let b = begins s.reader (bytes_left left) plain (omega (arith, long)) in
+    (b.bytes, b.rest, b.text, b.plain, long_breaks m p b.bytes (omega (arith, b.longer, long)))
 
--- a line that is no line of a head
-pub not_read : (left left' : Option (List ℕ)) (ahead ahead' : List ℕ) (n : ℕ) → Fills left left' ahead ahead' → IsLineBreak ahead' (Some n)
-    → ((line : HeadLine) → IsHead line → take n ahead' ≡ head_text line → ⊥) → RefusesHead AnyLine left left' ahead
-not_read left left' ahead ahead' n f b none = record {
-  got = f.got;
-  reads = f.reads;
-  none = λ line rest h p e.
-      let r = cut_line (take n ahead') (head_text line) (drop (n + 1) ahead' ++ bytes_left left') rest b.1 (head_is_plain line)
-      (sym (behind (take n ahead') (drop (n + 1) ahead') (bytes_left left')) ∙ ap (λ x. x ++ bytes_left left') (sym b.2)
-      ∙ ap (λ x. x ++ bytes_left left') f.joined ∙ append_assoc ahead f.got (bytes_left left') ∙ e) in
-      none line h r.0;
+pub head_long : (draft : Draft) (left left' : Option (List ℕ)) (faults faults' : ℕ) (old s : Lines) → Finds left left' old s
+    → is_plain s.reader ≡ true → most_line < length s.reader → FailsHead (Refused 1) draft left left' faults faults' old s
+head_long draft left left' faults faults' old s f plain long =
+    let b = too_long mode.Device place.Head s left' plain long in
+    record { finds = f; cause = (b.0, b.1, b.2, b.3, inl b.4); cut = λ e. absurd (cc (e)) }
+
+pub head_short : (draft : Draft) (left left' : Option (List ℕ)) (faults faults' : ℕ) (old s : Lines) → Finds left left' old s
+    → s.reader ≡ [] → s.ended ≡ true → (s.ended ≡ true → IsAtEnd left') → FailsHead Short draft left left' faults faults' old s
+head_short draft left left' faults faults' old s f empty ended ends = record {
+  finds = f;
+  cause = ap (λ t. t ++ bytes_left left') empty ∙ none left' (ends ended);
+  cut = λ e. absurd (cc (e));
+} where
+  none : (left : Option (List ℕ)) → IsAtEnd left → bytes_left left ≡ []
+  none None h = refl
+  none (Some l) h = h
+
+pub head_fault : (draft : Draft) (left left' : Option (List ℕ)) (faults faults' : ℕ) (old s : Lines) → Finds left left' old s → Rose faults faults' → IsCut s
+    → FailsHead ReadFault draft left left' faults faults' old s
+head_fault draft left left' faults faults' old s f rose cut = record { finds = f; cause = rose; cut = λ e. cut }
+
+pub heads_start : (left : Option (List ℕ)) (s : Lines) → s ≡ new_lines → HeadSoFar new_draft left left s s
+heads_start left s e = record {
+  heads = [];
+  lines = tt;
+  holds = draft_none;
+  gone = gone_nothing left s;
+  size = omega (arith, ap (λ t. t.count) e, ap (λ t. t.lines) e);
+  paid = omega (arith, ap (λ t. t.lines) e);
+  few = omega (arith, ap (λ t. t.lines) e);
+  room = omega arith;
+  rises = refl;
 }
 
--- a line that was read
-pub is_read : (line : HeadLine) (left left' : Option (List ℕ)) (ahead ahead' : List ℕ) (n : ℕ) → Fills left left' ahead ahead' → IsLineBreak ahead' (Some n)
-    → take n ahead' ≡ head_text line → IsHead line → TakesHead line left left' ahead (drop (n + 1) ahead')
-is_read line left left' ahead ahead' n f b e h = record {
-  got = f.got;
-  reads = f.reads;
-  text = sym f.joined ∙ b.2 ∙ ap (λ x. x ++ newline ∷ drop (n + 1) ahead') e;
-  fits = h;
+heads-append : (lines : List HeadLine) (line : HeadLine) → head_lines (lines ++ line ∷ []) ≡ head_lines lines ++ head_line line
+heads-append [] line = append-nil (head_line line)
+heads-append (l ∷ ls) line = ap (λ t. head_line l ++ t) (heads-append ls line) ∙ sym (append_assoc (head_line l) (head_lines ls) (head_line line))
+
+pub heads_more : (draft : Draft) (line : HeadLine) (left0 left left' : Option (List ℕ)) (old s new : Lines)
+    → HeadSoFar draft left0 left old s → TakesHead line draft left left' s new → HeadSoFar (with_head draft line) left0 left' old new
+heads_more draft line left0 left left' old s new h t =
+    let next = nearer draft line t.accepted in
+    record {
+      heads = h.heads ++ line ∷ [];
+      lines = so_far-more h.heads line h.lines t.fits (sym (accepts_in_order draft h.heads line h.holds) ∙ t.accepted);
+      holds = draft_more draft h.heads line h.holds;
+      gone = subst (λ (n : ℕ). Gone left0 left' old new (head_lines (h.heads ++ line ∷ [])) n) (sym (length-append h.heads (line ∷ [])))
+          (subst (λ (x : List ℕ). Gone left0 left' old new x (length h.heads + 1)) (sym (heads-append h.heads line))
+          (gone_more left0 left left' old s new (head_lines h.heads) (head_line line) (length h.heads) 1 (closed_heads h.heads) h.gone t.gone));
+      size = omega (arith, h.size, t.size, t.gone.lines);
+      paid = omega (arith, h.paid, t.gone.lines, t.more);
+      few = omega (arith, h.few, t.gone.lines, next.place);
+      room = next.room h.room;
+      rises = rises_more draft line t.accepted t.fits h.rises;
+    }
+
+pub heads_whole : (draft : Draft) (left left' : Option (List ℕ)) (old new : Lines) (h : HeadSoFar draft left left' old new) → is_whole_stage draft.stage ≡ true
+    → (h : HeadSoFar draft left left' old new) × (is_whole h.heads ≡ true)
+heads_whole draft left left' old new h e = (h, sym (draft_whole draft h.heads h.holds) ∙ e)
+
+-- a head that goes no further
+abbrev pub found : (draft : Draft) (left0 left left' : Option (List ℕ)) (old s new : Lines) → HeadSoFar draft left0 left old s → Finds left left' s new
+    → HeadSoFar draft left0 left' old new
+found draft left0 left left' old s new h f = record {
+  heads = h.heads;
+  lines = h.lines;
+  holds = h.holds;
+  gone = subst (λ (n : ℕ). Gone left0 left' old new (head_lines h.heads) n) (add_none (length h.heads))
+      (subst (λ (x : List ℕ). Gone left0 left' old new x (length h.heads + 0)) (append-nil (head_lines h.heads))
+      (gone_more left0 left left' old s new (head_lines h.heads) [] (length h.heads) 0 (closed_heads h.heads) h.gone (gone_found left left' s new f)));
+  size = omega (arith, h.size, f.count, f.lines);
+  paid = omega (arith, h.paid, f.count, f.lines);
+  few = omega (arith, h.few, f.lines);
+  room = h.room;
+  rises = h.rises;
+} where
+  add_none : (n : ℕ) → n + 0 ≡ n
+  add_none n = omega arith
+
+cause_within : (e : NoHead) (draft : Draft) (rest : List ℕ) (a b c : ℕ) → a ≤ b → HeadCause e draft rest b c → HeadCause e draft rest a c
+cause_within (Refused rule) draft rest a b c le h = h
+cause_within Short draft rest a b c le h = h
+cause_within ReadFault draft rest a b c le h = rose_within a b c c le h (omega arith)
+
+pub heads_fail : (e : NoHead) (draft : Draft) (left0 left left' : Option (List ℕ)) (faults0 faults faults' : ℕ) (old s new : Lines)
+    → HeadSoFar draft left0 left old s → is_whole_stage draft.stage ≡ false → faults0 ≤ faults → FailsHead e draft left left' faults faults' s new
+    → HeadStops e left0 left' faults0 faults' old new
+heads_fail e draft left0 left left' faults0 faults faults' old s new h going le f = record {
+  draft = draft;
+  so_far = found draft left0 left left' old s new h f.finds;
+  unfinished = sym (draft_whole draft h.heads h.holds) ∙ going;
+  cause = cause_within e draft (new.reader ++ bytes_left left') faults0 faults faults' le f.cause;
+  cut = f.cut;
 }
 
--- what is left has no newline, and so no line
-pub no_break : (left left' : Option (List ℕ)) (ahead ahead' : List ℕ) → Fills left left' ahead ahead' → is_plain ahead' ≡ true → IsAtEnd left' → RefusesHead AnyLine left left' ahead
-no_break left left' ahead ahead' f plain ended = record {
-  got = f.got;
-  reads = f.reads;
-  none = λ line rest h p e.
-      let whole : ahead' ++ [] ≡ head_text line ++ newline ∷ rest =
-      append-nil ahead' ∙ f.joined ∙ ap (λ x. ahead ++ x) (sym (append-nil f.got) ∙ ap (λ l. f.got ++ l) (sym (at_end_left left' ended))) ∙ e in
-      let r = cut ahead' (head_text line) [] (newline ∷ rest) plain (head_is_plain line) tt refl whole in
-      cc (r.1);
-}
-
--- bytes without a newline are no longer than the line that they begin
-pub plain_is_short : (a b x y : List ℕ) → is_plain a ≡ true → IsLineEnd y → a ++ x ≡ b ++ y → length a ≤ length b
-plain_is_short [] b x y plain ended e = omega arith
-plain_is_short (c ∷ cs) [] x [] plain ended e = absurd (cc)
-plain_is_short (c ∷ cs) [] x (d ∷ ds) plain ended e = let same : c ≡ newline = cc in absurd (no_newline c cs plain same)
-plain_is_short (c ∷ cs) (d ∷ ds) x y plain ended e =
-    let rest : cs ++ x ≡ ds ++ y = cc in
-    omega (arith, plain_is_short cs ds x y (plain_rest c cs plain) ended rest)
-
-pub too_long : (left left' : Option (List ℕ)) (ahead ahead' : List ℕ) → Fills left left' ahead ahead' → is_plain ahead' ≡ true → most_line < length ahead' → RefusesHead AnyLine left left' ahead
-too_long left left' ahead ahead' f plain long = record {
-  got = f.got;
-  reads = f.reads;
-  none = λ line rest h p e.
-      let few = plain_is_short ahead' (head_text line) (bytes_left left') (newline ∷ rest) plain refl
-      (ap (λ x. x ++ bytes_left left') f.joined ∙ append_assoc ahead f.got (bytes_left left') ∙ e) in
-      omega (arith, few, head_is_short line h, long);
-}
-
--- a head is refused at its first, its second or its third line
-pub first_fails : (e : NoHead) (left left' : Option (List ℕ)) (faults faults' : ℕ) (ahead : List ℕ)
-    → FailsHead IsGoodDevice e left left' faults faults' ahead → FailsHeads e left left' faults faults' ahead
-first_fails Refused left left' faults faults' ahead r = record {
-  got = r.got;
-  reads = r.reads;
-  none = λ device config rest hd hc good e.
-      r.none (Device (record { items = device })) _ hd good (e ∙ head_then device config rest);
-}
-first_fails ReadFault left left' faults faults' ahead rose = rose
-
-pub second_fails : (e : NoHead) (device : ArrayVec ℕ) (left0 left1 left2 : Option (List ℕ)) (faults0 faults1 faults2 : ℕ) (ahead0 ahead1 : List ℕ)
-    → TakesHead (Device device) left0 left1 ahead0 ahead1 → faults0 ≤ faults1
-    → FailsHead IsConfig e left1 left2 faults1 faults2 ahead1 → faults1 ≤ faults2 → FailsHeads e left0 left2 faults0 faults2 ahead0
-second_fails Refused d left0 left1 left2 faults0 faults1 faults2 ahead0 ahead1 t lt r le = record {
-  got = t.got ++ r.got;
-  reads = reads-more left0 left1 left2 t.got r.got t.reads r.reads;
-  none = λ device config rest hd hc good e.
-      let a = taken_line (Device d) (Device (record { items = device })) left0 left1 ahead0 ahead1 (r.got ++ bytes_left left2) _ t hd
-      (ap (λ x. ahead0 ++ x) (sym (append_assoc t.got r.got (bytes_left left2))) ∙ e ∙ head_then device config rest) in
-      r.none (Config (record { items = config })) _ hc tt a.1;
-}
-second_fails ReadFault d left0 left1 left2 faults0 faults1 faults2 ahead0 ahead1 t lt rose le = rose_within faults0 faults1 faults2 faults2 lt rose (omega arith)
-
-pub third_fails : (e : NoHead) (device config : ArrayVec ℕ) (left0 left1 left2 left3 : Option (List ℕ)) (faults0 faults1 faults2 faults3 : ℕ) (ahead0 ahead1 ahead2 : List ℕ)
-    → TakesHead (Device device) left0 left1 ahead0 ahead1 → faults0 ≤ faults1
-    → TakesHead (Config config) left1 left2 ahead1 ahead2 → faults1 ≤ faults2
-    → FailsHead IsBegin e left2 left3 faults2 faults3 ahead2 → FailsHeads e left0 left3 faults0 faults3 ahead0
-third_fails Refused d c left0 left1 left2 left3 faults0 faults1 faults2 faults3 ahead0 ahead1 ahead2 t le u le' r = record {
-  got = t.got ++ (u.got ++ r.got);
-  reads = reads-more left0 left1 left3 t.got (u.got ++ r.got) t.reads (reads-more left1 left2 left3 u.got r.got u.reads r.reads);
-  none = λ device config rest hd hc good e.
-      let a = taken_line (Device d) (Device (record { items = device })) left0 left1 ahead0 ahead1 ((u.got ++ r.got) ++ bytes_left left3) _ t hd
-      (ap (λ x. ahead0 ++ x) (sym (append_assoc t.got (u.got ++ r.got) (bytes_left left3))) ∙ e ∙ head_then device config rest) in
-      let b = taken_line (Config c) (Config (record { items = config })) left1 left2 ahead1 ahead2 (r.got ++ bytes_left left3) _ u hc
-      (ap (λ x. ahead1 ++ x) (sym (append_assoc u.got r.got (bytes_left left3))) ∙ a.1) in
-      r.none Begin _ tt tt b.1;
-}
-third_fails ReadFault d c left0 left1 left2 left3 faults0 faults1 faults2 faults3 ahead0 ahead1 ahead2 t le u le' rose = rose_within faults0 faults2 faults3 faults3 (omega arith) rose (omega arith)
-
--- how long a head is
-length-hex_some : (bytes : List ℕ) → 1 ≤ length bytes → length (hex bytes) ≡ 2 * length bytes
-length-hex_some [] h = absurd (omega arith)
-length-hex_some (b ∷ bs) h = length-pairs (b ∷ bs)
-
-pub head_size : (device config : List ℕ) → 1 ≤ length device → 1 ≤ length config → length (head_lines device config) ≡ 22 + 2 * length device + 2 * length config
-head_size device config hd hc =
-    let last : List ℕ = newline ∷ (head_text Begin ++ newline ∷ []) in
-    let next : List ℕ = newline ∷ (head_text (Config (record { items = config })) ++ last) in
-    omega (arith, length-append (hex device) next, length-append (hex config) last, length-hex_some device hd, length-hex_some config hc)
-
--- all three lines
-pub all_taken : (device config : ArrayVec ℕ) (size : ℕ) (left0 left1 left2 left3 : Option (List ℕ)) (ahead0 ahead1 ahead2 ahead3 : List ℕ)
-    → TakesHead (Device device) left0 left1 ahead0 ahead1 → IsTrue (is_descriptor device.items)
-    → TakesHead (Config config) left1 left2 ahead1 ahead2 → TakesHead Begin left2 left3 ahead2 ahead3
-    → size ≡ 22 + 2 * length device.items + 2 * length config.items
-    → TakesHeads (record { device = device; length = size }) left0 left3 ahead0 ahead3
-all_taken d c size left0 left1 left2 left3 ahead0 ahead1 ahead2 ahead3 t good u v e = record {
-  config = c.items;
-  got = t.got ++ (u.got ++ v.got);
-  reads = reads-more left0 left1 left3 t.got (u.got ++ v.got) t.reads (reads-more left1 left2 left3 u.got v.got u.reads v.reads);
-  text =
-      sym (append_assoc ahead0 t.got (u.got ++ v.got)) ∙ ap (λ x. x ++ (u.got ++ v.got)) t.text
-      ∙ behind (head_text (Device d)) ahead1 (u.got ++ v.got)
-      ∙ ap (λ x. head_text (Device d) ++ newline ∷ x) (
-      sym (append_assoc ahead1 u.got v.got) ∙ ap (λ x. x ++ v.got) u.text ∙ behind (head_text (Config c)) ahead2 v.got
-      ∙ ap (λ x. head_text (Config c) ++ newline ∷ x) v.text)
-      ∙ sym (head_then d.items c.items ahead3);
-  device_fits = t.fits;
-  config_fits = u.fits;
-  descriptor = good;
-  size = e ∙ sym (head_size d.items c.items t.fits.0 u.fits.0);
-  small = omega (arith, e, t.fits.1, u.fits.1);
-}
+pub heads_few : (draft : Draft) (left left' : Option (List ℕ)) (old new : Lines) → HeadSoFar draft left left' old new → new.lines ≤ most_heads
+heads_few draft left left' old new h = omega (arith, h.few, h.room, rank_most draft.stage)

@@ -1,18 +1,29 @@
 -- How a run that stopped ends.
-use Rattle.std.specs.Prelude.{◌≡◌, ℕ, List, [], ⊤}
+use Rattle.std.specs.Prelude.{◌≡◌, ℕ, ◌+◌, List, [], ◌⊎◌}
 use Rattle.usb_edge.specs.Stream.{Rose}
+use Rattle.usbrun.specs.declared.head.NoHead.{NoHead}
+use Rattle.usbrun.specs.declared.head.NoHead.TheVariants as no
 use Rattle.usbrun.specs.declared.session.Stop.{Stop}
 use Rattle.usbrun.specs.declared.session.Stop.TheVariants as stop
 use Rattle.usbrun.specs.declared.status.Status.{Status}
 use Rattle.usbrun.specs.declared.status.Status.TheVariants as status
 
--- the status, once all that waited was handed on; or the sink failed
-abbrev pub Finishes : Stop → Status → List ℕ → ℕ → ℕ → Type 0
-Finishes stop.End status.Ok waiting writes writes' = waiting ≡ []
-Finishes stop.Refused (status.BadJob line rule) waiting writes writes' = (line ≡ 0) × (rule ≡ 0) × (waiting ≡ [])
-Finishes stop.ReadFault status.ReadFault waiting writes writes' = waiting ≡ []
-Finishes stop.WriteFault status.WriteFault waiting writes writes' = ⊤
-Finishes stop.End status.WriteFault waiting writes writes' = Rose writes writes'
-Finishes stop.Refused status.WriteFault waiting writes writes' = Rose writes writes'
-Finishes stop.ReadFault status.WriteFault waiting writes writes' = Rose writes writes'
-Finishes _ _ waiting writes writes' = ⊥
+-- the status of a head that isn't whole after so many lines
+abbrev pub head_status : NoHead → ℕ → Status
+head_status (no.Refused rule) lines = status.BadJob (lines + 1) rule
+head_status no.Short lines = status.Short lines
+head_status no.ReadFault lines = status.ReadFault
+
+-- the status of a run that stopped after so many lines
+abbrev pub stop_status : Stop → ℕ → Status
+stop_status stop.End lines = status.Ok
+stop_status (stop.Refused rule) lines = status.BadJob (lines + 1) rule
+stop_status stop.Short lines = status.Short lines
+stop_status stop.TooLong lines = status.TooLong
+stop_status stop.ReadFault lines = status.ReadFault
+stop_status stop.WriteFault lines = status.WriteFault
+
+-- that status, once all that waited was handed on; or the sink failed
+abbrev pub Finishes : Stop → ℕ → Status → List ℕ → ℕ → ℕ → Type 0
+Finishes s lines ended waiting writes writes' =
+    ((ended ≡ stop_status s lines) × (waiting ≡ [])) ⊎ ((ended ≡ status.WriteFault) × ((s ≡ stop.WriteFault) ⊎ Rose writes writes'))

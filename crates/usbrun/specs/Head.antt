@@ -1,101 +1,84 @@
 -- What reading a head did.
-use Rattle.std.specs.Prelude.{◌≡◌, ℕ, ◌≤◌, List, ◌∷◌, ◌++◌, length, IsTrue, Option, Result, Ok, Err, ⊤}
-use Rattle.arrayvec.specs.ArrayVec.{ArrayVec}
-use Rattle.usb_edge.specs.Stream.{Reads, Rose}
+use Rattle.std.specs.Prelude.{◌≡◌, ℕ, ◌+◌, ◌*◌, ◌<◌, ◌≤◌, List, [], ◌∷◌, ◌++◌, length, true, false, ◌⊎◌, Option, Some, Result, Ok, Err}
+use Rattle.usb_edge.specs.Stream.{Rose}
 use Rattle.usb_text.specs.declared.head.HeadLine.{HeadLine}
-use Rattle.usb_text.specs.declared.head.HeadLine.TheVariants.{Device, Config, Begin}
+use Rattle.usb_text.specs.declared.rules.Mode.TheVariants as mode
+use Rattle.usb_text.specs.declared.rules.Place.TheVariants as place
 use Rattle.usb_text.specs.Line.{newline}
 use Rattle.usb_text.specs.Head.{head_text, IsHead}
-use Rattle.device_schedule.specs.Job.{head_lines, is_descriptor}
+use Rattle.usb_text.specs.Plain.{is_plain}
+use Rattle.usb_text.specs.Rules.{lowest, most_line}
+use Rattle.device_schedule.specs.Job.{head_line, head_lines, closed, IsHeadSoFar, is_whole}
 use Rattle.usbrun.specs.Stream.{bytes_left}
-use Rattle.usbrun.specs.declared.head.Head as declared
+use Rattle.usbrun.specs.Lines.{Finds, Gone, IsCut}
+use Rattle.usbrun.specs.Draft.{IsDraft, Ascends, accepts, rank}
+use Rattle.usbrun.specs.declared.lines.Lines.{Lines}
+use Rattle.usbrun.specs.declared.draft.Draft.{Draft}
 use Rattle.usbrun.specs.declared.head.NoHead.{NoHead}
-use Rattle.usbrun.specs.declared.head.NoHead.TheVariants.{Refused, ReadFault}
+use Rattle.usbrun.specs.declared.head.NoHead.TheVariants.{Refused, Short, ReadFault}
 
--- which line is wanted
-abbrev pub AnyLine : HeadLine → Type 0
-AnyLine line = ⊤
+abbrev pub new_lines : Lines
+new_lines = record { reader = []; ended = false; count = 0; lines = 0 }
 
-abbrev pub IsGoodDevice : HeadLine → Type 0
-IsGoodDevice (Device bytes) = IsTrue (is_descriptor bytes.items)
-IsGoodDevice (Config bytes) = ⊥
-IsGoodDevice Begin = ⊥
+-- how many lines a head has at most: the device descriptor, the configuration, eight strings, the report
+-- descriptor, and `begin`
+abbrev pub most_heads : ℕ
+most_heads = 12
 
-abbrev pub IsConfig : HeadLine → Type 0
-IsConfig (Device bytes) = ⊥
-IsConfig (Config bytes) = ⊤
-IsConfig Begin = ⊥
-
-abbrev pub IsBegin : HeadLine → Type 0
-IsBegin (Device bytes) = ⊥
-IsBegin (Config bytes) = ⊥
-IsBegin Begin = ⊤
-
--- these bytes begin with no such line of a head
-abbrev pub HasNone : (HeadLine → Type 0) → List ℕ → Type 0
-HasNone P bytes = (line : HeadLine) (rest : List ℕ) → IsHead line → P line → bytes ≡ head_text line ++ newline ∷ rest → ⊥
-
--- these bytes begin with no head whose device descriptor meets the rules
-abbrev pub HasNoHeads : List ℕ → Type 0
-HasNoHeads bytes = (device config rest : List ℕ) → IsHead (Device (record { items = device })) → IsHead (Config (record { items = config }))
-    → IsTrue (is_descriptor device) → bytes ≡ head_lines device config ++ rest → ⊥
+-- the most bytes of a line with its newline
+abbrev pub most_size : ℕ
+most_size = most_line + 1
 
 -- one line was read and taken
-pub record TakesHead (line : HeadLine) (left left' : Option (List ℕ)) (ahead ahead' : List ℕ) : Type 0 where
-  pub got : List ℕ
-  pub reads : Reads left left' got
-  pub text : ahead ++ got ≡ head_text line ++ newline ∷ ahead'
+pub record TakesHead (line : HeadLine) (draft : Draft) (left left' : Option (List ℕ)) (old new : Lines) : Type 0 where
   pub fits : IsHead line
+  pub accepted : accepts draft.stage (length draft.strings.items) line ≡ true
+  pub gone : Gone left left' old new (head_line line) 1
+  pub size : new.count ≤ old.count + most_size
+  pub more : old.count < new.count
 
--- or what there is begins with no such line
-pub record RefusesHead (P : HeadLine → Type 0) (left left' : Option (List ℕ)) (ahead : List ℕ) : Type 0 where
-  pub got : List ℕ
-  pub reads : Reads left left' got
-  pub none : HasNone P (ahead ++ (got ++ bytes_left left'))
+-- a rule that a line breaks
+abbrev pub BreaksHead : Draft → List ℕ → ℕ → Type 0
+BreaksHead draft bytes rule =
+    (lowest mode.Device place.Head bytes ≡ Some rule)
+    ⊎ ((rule ≡ 8) × ((line : HeadLine) × IsHead line × (bytes ≡ head_text line) × (accepts draft.stage (length draft.strings.items) line ≡ false)))
 
-abbrev pub FailsHead : (HeadLine → Type 0) → NoHead → Option (List ℕ) → Option (List ℕ) → ℕ → ℕ → List ℕ → Type 0
-FailsHead P Refused left left' faults faults' ahead = RefusesHead P left left' ahead
-FailsHead P ReadFault left left' faults faults' ahead = Rose faults faults'
+-- or no line was, for this cause
+abbrev pub HeadCause : NoHead → Draft → List ℕ → ℕ → ℕ → Type 0
+HeadCause (Refused rule) draft rest faults faults' =
+    (bytes tail : List ℕ) × (closed rest ≡ bytes ++ newline ∷ tail) × (is_plain bytes ≡ true) × BreaksHead draft bytes rule
+HeadCause Short draft rest faults faults' = rest ≡ []
+HeadCause ReadFault draft rest faults faults' = Rose faults faults'
 
-abbrev pub ReadsHead : Result HeadLine NoHead → Option (List ℕ) → Option (List ℕ) → ℕ → ℕ → List ℕ → List ℕ → Type 0
-ReadsHead (Ok line) left left' faults faults' ahead ahead' = TakesHead line left left' ahead ahead'
-ReadsHead (Err e) left left' faults faults' ahead ahead' = FailsHead AnyLine e left left' faults faults' ahead
+pub record FailsHead (e : NoHead) (draft : Draft) (left left' : Option (List ℕ)) (faults faults' : ℕ) (old new : Lines) : Type 0 where
+  pub finds : Finds left left' old new
+  pub cause : HeadCause e draft (new.reader ++ bytes_left left') faults faults'
+  pub cut : e ≡ ReadFault → IsCut new
 
-abbrev pub ReadsDevice : Result (ArrayVec ℕ) NoHead → Option (List ℕ) → Option (List ℕ) → ℕ → ℕ → List ℕ → List ℕ → Type 0
-ReadsDevice (Ok device) left left' faults faults' ahead ahead' = TakesHead (Device device) left left' ahead ahead' × IsTrue (is_descriptor device.items)
-ReadsDevice (Err e) left left' faults faults' ahead ahead' = FailsHead IsGoodDevice e left left' faults faults' ahead
+abbrev pub ReadsHead : Result HeadLine NoHead → Draft → Option (List ℕ) → Option (List ℕ) → ℕ → ℕ → Lines → Lines → Type 0
+ReadsHead (Ok line) draft left left' faults faults' old new = TakesHead line draft left left' old new
+ReadsHead (Err e) draft left left' faults faults' old new = FailsHead e draft left left' faults faults' old new
 
-abbrev pub ReadsConfig : Result ℕ NoHead → Option (List ℕ) → Option (List ℕ) → ℕ → ℕ → List ℕ → List ℕ → Type 0
-ReadsConfig (Ok n) left left' faults faults' ahead ahead' =
-    (config : ArrayVec ℕ) × TakesHead (Config config) left left' ahead ahead' × (n ≡ length config.items) × (n ≤ 600)
-ReadsConfig (Err e) left left' faults faults' ahead ahead' = FailsHead IsConfig e left left' faults faults' ahead
+-- these lines of a head were read and taken
+pub record HeadSoFar (draft : Draft) (left left' : Option (List ℕ)) (old new : Lines) : Type 0 where
+  pub heads : List HeadLine
+  pub lines : IsHeadSoFar heads
+  pub holds : IsDraft draft heads
+  pub gone : Gone left left' old new (head_lines heads) (length heads)
+  pub size : new.count ≤ most_size * new.lines
+  pub paid : new.lines ≤ new.count
+  pub few : new.lines ≤ rank draft.stage + length draft.strings.items
+  pub room : length draft.strings.items ≤ 8
+  pub rises : Ascends draft.stage draft.strings.items
 
-abbrev pub ReadsBegin : Result (Unit {0}) NoHead → Option (List ℕ) → Option (List ℕ) → ℕ → ℕ → List ℕ → List ℕ → Type 0
-ReadsBegin (Ok u) left left' faults faults' ahead ahead' = TakesHead Begin left left' ahead ahead'
-ReadsBegin (Err e) left left' faults faults' ahead ahead' = FailsHead IsBegin e left left' faults faults' ahead
+-- and then a line was refused, or there was none
+pub record HeadStops (e : NoHead) (left left' : Option (List ℕ)) (faults faults' : ℕ) (old new : Lines) : Type 0 where
+  pub draft : Draft
+  pub so_far : HeadSoFar draft left left' old new
+  pub unfinished : is_whole so_far.heads ≡ false
+  pub cause : HeadCause e draft (new.reader ++ bytes_left left') faults faults'
+  pub cut : e ≡ ReadFault → IsCut new
 
--- a whole head was read and taken
-pub record TakesHeads (head : declared.Head) (left left' : Option (List ℕ)) (ahead ahead' : List ℕ) : Type 0 where
-  pub config : List ℕ
-  pub got : List ℕ
-  pub reads : Reads left left' got
-  pub text : ahead ++ got ≡ head_lines head.device.items config ++ ahead'
-  pub device_fits : IsHead (Device head.device)
-  pub config_fits : IsHead (Config (record { items = config }))
-  pub descriptor : IsTrue (is_descriptor head.device.items)
-  pub size : head.length ≡ length (head_lines head.device.items config)
-  pub small : head.length ≤ 2000
-
--- or what there is begins with no head
-pub record RefusesHeads (left left' : Option (List ℕ)) (ahead : List ℕ) : Type 0 where
-  pub got : List ℕ
-  pub reads : Reads left left' got
-  pub none : HasNoHeads (ahead ++ (got ++ bytes_left left'))
-
-abbrev pub FailsHeads : NoHead → Option (List ℕ) → Option (List ℕ) → ℕ → ℕ → List ℕ → Type 0
-FailsHeads Refused left left' faults faults' ahead = RefusesHeads left left' ahead
-FailsHeads ReadFault left left' faults faults' ahead = Rose faults faults'
-
-abbrev pub ReadsHeads : Result declared.Head NoHead → Option (List ℕ) → Option (List ℕ) → ℕ → ℕ → List ℕ → List ℕ → Type 0
-ReadsHeads (Ok head) left left' faults faults' ahead ahead' = TakesHeads head left left' ahead ahead'
-ReadsHeads (Err e) left left' faults faults' ahead ahead' = FailsHeads e left left' faults faults' ahead
+abbrev pub ReadsHeads : Result Draft NoHead → Option (List ℕ) → Option (List ℕ) → ℕ → ℕ → Lines → Lines → Type 0
+ReadsHeads (Ok draft) left left' faults faults' old new = (h : HeadSoFar draft left left' old new) × (is_whole h.heads ≡ true)
+ReadsHeads (Err e) left left' faults faults' old new = HeadStops e left left' faults faults' old new

@@ -1,7 +1,8 @@
 pub mod Stream
-pub mod Next
+pub mod Lines
+pub mod Draft
 pub mod Head
 pub mod Session
+pub mod Finish
 pub mod Status
 pub mod Top
-pub mod Finish

@@ -1,12 +1,8 @@
 -- What was read ahead and what waits to be written.
-use Rattle.std.specs.Prelude.{◌≡◌, ℕ, ◌+◌, ◌<◌, List, [], ◌∷◌, ◌++◌, true, length, take, drop, Option, Some, None}
+use Rattle.std.specs.Prelude.{◌≡◌, ℕ, ◌+◌, ◌<◌, ◌≤◌, List, [], ◌∷◌, ◌++◌, true, length, take, drop, Option, Some, None}
 use Rattle.usb_edge.specs.Stream.{Reads, Takes}
 use Rattle.usb_text.specs.Line.{newline}
 use Rattle.usb_text.specs.Plain.{is_plain}
-
--- the most bytes that a line has
-abbrev pub most_line : ℕ
-most_line = 8400
 
 -- what was read of a source stands behind what had been read ahead
 pub record Fills (left left' : Option (List ℕ)) (ahead ahead' : List ℕ) : Type 0 where
@@ -29,3 +25,7 @@ IsLineBreak bytes (Some n) = (n < length bytes) × (is_plain (take n bytes) ≡ 
 abbrev pub bytes_left : Option (List ℕ) → List ℕ
 bytes_left None = []
 bytes_left (Some left) = left
+
+-- behind what waits, of at most 32,768 bytes, there is room for one answer more with its newline
+abbrev pub HasRoom : List ℕ → Type 0
+HasRoom waiting = length waiting + 8200 ≤ 32768

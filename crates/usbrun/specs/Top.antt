@@ -1,13 +1,13 @@
 -- What the program does, by how it ends.
-use Rattle.std.specs.Prelude.{◌≡◌, ℕ, List, [], ◌∷◌, ◌++◌, IsTrue, ◌⊎◌, Option, Some, None, IfSome, codes}
-use Rattle.std.specs.List.{AllByRecursion}
+use Rattle.std.specs.Prelude.{◌≡◌, ℕ, List, [], ◌∷◌, ◌++◌, true, Option, Some, None, IfSome, codes, ◌⊎◌}
 use Rattle.usb_edge.specs.Stream.{Takes, Rose}
 use Rattle.usb_text.specs.declared.line.DevLine.{DevLine}
-use Rattle.usb_text.specs.declared.head.HeadLine.TheVariants.{Device, Config}
-use Rattle.usb_text.specs.Line.{IsDeviceLine}
-use Rattle.usb_text.specs.Head.{IsHead}
+use Rattle.usb_text.specs.declared.head.HeadLine.{HeadLine}
 use Rattle.device_schedule.specs.Schedule.{device_text}
-use Rattle.device_schedule.specs.Job.{Job, Spells, head_lines, schedule_text, is_descriptor}
+use Rattle.usb_text.specs.Plain.{is_plain}
+use Rattle.device_schedule.specs.Job.{Job, Spells, IsAccepted, front_text, closed}
+use Rattle.device_schedule.specs.Outcome.{Front, RefusesLine, RefusesSet, EndsShort, PassesLimit, Outcome, IsOutcome, set_of}
+use Rattle.device_schedule.specs.Outcome as outcome
 use Rattle.usbrun.specs.declared.status.Status.{Status}
 use Rattle.usbrun.specs.declared.status.Status.TheVariants as status
 
@@ -20,61 +20,100 @@ abbrev pub Told : Option (List ℕ) → (List ℕ → Type 0) → Type 0
 Told (Some input) P = P input
 Told None P = (input : List ℕ) × P input
 
--- The bytes spell a job, and the sink took the text of its answers and nothing else.
-abbrev pub WritesAll : Option (List ℕ) → Option (List ℕ) → Option (List ℕ) → Type 0
-WritesAll left taken taken' = Told left (λ input. (job : Job) × Spells input job × Takes taken taken' (device_text job.device job.schedule))
+-- the sink took the text of the answers to a schedule, each that of its line's owner, and nothing else
+abbrev pub Writes : List HeadLine → List DevLine → Option (List ℕ) → Option (List ℕ) → Type 0
+Writes head schedule taken taken' = Takes taken taken' (device_text (set_of head) schedule)
 
--- The bytes begin with a head and these lines, and the sink took the front of the text of their answers, whose
--- rest is `more`.
-pub record Front (input : List ℕ) (taken taken' : Option (List ℕ)) (more : List ℕ) : Type 0 where
-  pub device : List ℕ
-  pub config : List ℕ
-  pub lines : List DevLine
-  pub rest : List ℕ
+-- it took the front of that text
+pub record WritesFront (head : List HeadLine) (schedule : List DevLine) (taken taken' : Option (List ℕ)) : Type 0 where
   pub given : List ℕ
-  pub input_is : input ≡ head_lines device config ++ (schedule_text lines ++ rest)
-  pub device_fits : IsHead (Device (record { items = device }))
-  pub config_fits : IsHead (Config (record { items = config }))
-  pub descriptor : IsTrue (is_descriptor device)
-  pub lines_fit : AllByRecursion IsDeviceLine lines
+  pub more : List ℕ
+  pub text : device_text (set_of head) schedule ≡ given ++ more
   pub takes : Takes taken taken' given
-  pub text : device_text device lines ≡ given ++ more
 
--- The sink took the whole text of the answers to the lines that were read, or nothing where no head was.
-abbrev pub WritesLines : Option (List ℕ) → Option (List ℕ) → Option (List ℕ) → Type 0
-WritesLines left taken taken' = Takes taken taken' [] ⊎ Told left (λ input. Front input taken taken' [])
+-- what holds of those bytes and of what is left of them now
+abbrev pub ToldBoth : Option (List ℕ) → Option (List ℕ) → (List ℕ → List ℕ → Type 0) → Type 0
+ToldBoth (Some input) (Some left) P = P input left
+ToldBoth None None P = (input : List ℕ) × P input []
+ToldBoth (Some input) None P = ⊥
+ToldBoth None (Some left) P = ⊥
 
--- It took the front of that text.
-abbrev pub WritesFront : Option (List ℕ) → Option (List ℕ) → Option (List ℕ) → Type 0
-WritesFront left taken taken' = Told left (λ input. (more : List ℕ) × Front input taken taken' more)
+-- all whole lines of what was read, which is all but what is left: of the next line only a part was read
+pub record ReadSoFar (input left : List ℕ) : Type 0 where
+  pub head : List HeadLine
+  pub schedule : List DevLine
+  pub part : List ℕ
+  pub text : input ≡ front_text head schedule ++ (part ++ left)
+  pub plain : is_plain part ≡ true
+  pub front : Front input head schedule (closed (part ++ left))
 
--- the bytes begin with a head whose device descriptor meets the rules
-abbrev pub HasHead : List ℕ → Type 0
-HasHead input = (device config rest : List ℕ) × (input ≡ head_lines device config ++ rest) × IsHead (Device (record { items = device }))
-    × IsHead (Config (record { items = config })) × IsTrue (is_descriptor device)
+-- lines that the bytes begin with, and what follows
+pub record Begins (input : List ℕ) : Type 0 where
+  pub head : List HeadLine
+  pub schedule : List DevLine
+  pub rest : List ℕ
+  pub front : Front input head schedule rest
 
--- no job is spelled by the bytes that a source had, where it tells them
-abbrev pub SpellsNone : Option (List ℕ) → Type 0
-SpellsNone left = IfSome left (λ input. (job : Job) → Spells input job → ⊥)
+-- the bytes begin with a whole head with an accepted set
+pub record HasHead (input : List ℕ) : Type 0 where
+  pub head : List HeadLine
+  pub rest : List ℕ
+  pub front : Front input head [] rest
+  pub accepted : IsAccepted head
 
--- Why a run of `device` ends as it does, and what the sink took. `left` is what the source had, `reads` and
+-- Why a run of `device` ends as it does, and what the sink took. `left` is what the source had and `left'` what
+-- it has left, `reads` and
 -- `reads'` its count of faults before and after, `taken` and `taken'` what the sink had taken, and `writes` and
 -- `writes'` its count.
-abbrev pub Ends : Status → Option (List ℕ) → ℕ → ℕ → Option (List ℕ) → Option (List ℕ) → ℕ → ℕ → Type 0
-Ends status.Ok left reads reads' taken taken' writes writes' = WritesAll left taken taken'
-Ends status.Usage left reads reads' taken taken' writes writes' = ⊥
-Ends (status.BadJob line rule) left reads reads' taken taken' writes writes' =
-    (line ≡ 0) × (rule ≡ 0) × SpellsNone left × WritesLines left taken taken'
-Ends status.ReadFault left reads reads' taken taken' writes writes' = Rose reads reads' × WritesLines left taken taken'
-Ends status.WriteFault left reads reads' taken taken' writes writes' = Rose writes writes' × WritesFront left taken taken'
-Ends status.NoMemory left reads reads' taken taken' writes writes' = Takes taken taken' [] × Told left HasHead
+abbrev pub Ends : Status → Option (List ℕ) → Option (List ℕ) → ℕ → ℕ → Option (List ℕ) → Option (List ℕ) → ℕ → ℕ → Type 0
+Ends status.Ok left left' reads reads' taken taken' writes writes' =
+    Told left (λ input. (job : Job) × Spells input job × Writes job.head job.schedule taken taken')
+Ends status.Usage left left' reads reads' taken taken' writes writes' = ⊥
+Ends (status.BadJob line rule) left left' reads reads' taken taken' writes writes' =
+    Told left (λ input. (r : RefusesLine input line rule) × Writes r.head r.schedule taken taken')
+Ends (status.BadSet rule at) left left' reads reads' taken taken' writes writes' =
+    Told left (λ input. RefusesSet input (record { rule = rule; at = at })) × Takes taken taken' []
+Ends status.ReadFault left left' reads reads' taken taken' writes writes' =
+    Rose reads reads' × ToldBoth left left' (λ input rest. (b : ReadSoFar input rest) × Writes b.head b.schedule taken taken')
+Ends status.WriteFault left left' reads reads' taken taken' writes writes' =
+    Rose writes writes' × Told left (λ input. (b : Begins input) × WritesFront b.head b.schedule taken taken')
+Ends status.NoMemory left left' reads reads' taken taken' writes writes' = Told left HasHead × Takes taken taken' []
+Ends (status.Short lines) left left' reads reads' taken taken' writes writes' =
+    Told left (λ input. (s : EndsShort input lines) × Writes s.head s.schedule taken taken')
+Ends status.TooLong left left' reads reads' taken taken' writes writes' =
+    Told left (λ input. (p : PassesLimit input) × Writes p.head p.schedule taken taken')
 
 -- the program's words decide first: no others than `device` are a command
-abbrev pub Cause : Status → List (List ℕ) → Option (List ℕ) → ℕ → ℕ → Option (List ℕ) → Option (List ℕ) → ℕ → ℕ → Type 0
-Cause status.Ok words left reads reads' taken taken' writes writes' = IsDevice words × Ends status.Ok left reads reads' taken taken' writes writes'
-Cause status.Usage words left reads reads' taken taken' writes writes' = (IsDevice words → ⊥) × (taken' ≡ taken)
-Cause (status.BadJob line rule) words left reads reads' taken taken' writes writes' =
-    IsDevice words × Ends (status.BadJob line rule) left reads reads' taken taken' writes writes'
-Cause status.ReadFault words left reads reads' taken taken' writes writes' = IsDevice words × Ends status.ReadFault left reads reads' taken taken' writes writes'
-Cause status.WriteFault words left reads reads' taken taken' writes writes' = IsDevice words × Ends status.WriteFault left reads reads' taken taken' writes writes'
-Cause status.NoMemory words left reads reads' taken taken' writes writes' = IsDevice words × Ends status.NoMemory left reads reads' taken taken' writes writes'
+abbrev pub Cause : Status → List (List ℕ) → Option (List ℕ) → Option (List ℕ) → ℕ → ℕ → Option (List ℕ) → Option (List ℕ) → ℕ → ℕ → Type 0
+Cause status.Ok words left left' reads reads' taken taken' writes writes' = IsDevice words × Ends status.Ok left left' reads reads' taken taken' writes writes'
+Cause status.Usage words left left' reads reads' taken taken' writes writes' = (IsDevice words → ⊥) × (taken' ≡ taken)
+Cause (status.BadJob line rule) words left left' reads reads' taken taken' writes writes' =
+    IsDevice words × Ends (status.BadJob line rule) left left' reads reads' taken taken' writes writes'
+Cause (status.BadSet rule at) words left left' reads reads' taken taken' writes writes' =
+    IsDevice words × Ends (status.BadSet rule at) left left' reads reads' taken taken' writes writes'
+Cause status.ReadFault words left left' reads reads' taken taken' writes writes' = IsDevice words × Ends status.ReadFault left left' reads reads' taken taken' writes writes'
+Cause status.WriteFault words left left' reads reads' taken taken' writes writes' = IsDevice words × Ends status.WriteFault left left' reads reads' taken taken' writes writes'
+Cause status.NoMemory words left left' reads reads' taken taken' writes writes' = IsDevice words × Ends status.NoMemory left left' reads reads' taken taken' writes writes'
+Cause (status.Short lines) words left left' reads reads' taken taken' writes writes' =
+    IsDevice words × Ends (status.Short lines) left left' reads reads' taken taken' writes writes'
+Cause status.TooLong words left left' reads reads' taken taken' writes writes' = IsDevice words × Ends status.TooLong left left' reads reads' taken taken' writes writes'
+
+-- the status of a reading
+abbrev pub outcome_status : Outcome → Status
+outcome_status (outcome.Whole job) = status.Ok
+outcome_status (outcome.BadLine line rule) = status.BadJob line rule
+outcome_status (outcome.BadSet fault) = status.BadSet fault.rule fault.at
+outcome_status (outcome.Short lines) = status.Short lines
+outcome_status outcome.TooLong = status.TooLong
+
+-- Where no count of faults rises, the program ends as its source's bytes are read, unless there is no memory: so a
+-- refusal comes exactly where they have that outcome.
+abbrev pub Exact : Status → List (List ℕ) → Option (List ℕ) → ℕ → ℕ → ℕ → ℕ → Type 0
+Exact s words left reads reads' writes writes' = IsDevice words → IfSome left (λ input. (o : Outcome) → IsOutcome input o
+    → (Rose reads reads' → ⊥) → (Rose writes writes' → ⊥) → (s ≡ outcome_status o) ⊎ (s ≡ status.NoMemory))
+
+-- A job that is spelled whole is answered whole, unless there is no memory, and then nothing is written.
+abbrev pub Completes : Status → List (List ℕ) → Option (List ℕ) → ℕ → ℕ → Option (List ℕ) → Option (List ℕ) → ℕ → ℕ → Type 0
+Completes s words left reads reads' taken taken' writes writes' = IsDevice words → IfSome left (λ input. (job : Job) → Spells input job
+    → (Rose reads reads' → ⊥) → (Rose writes writes' → ⊥)
+    → ((s ≡ status.Ok) × Writes job.head job.schedule taken taken') ⊎ ((s ≡ status.NoMemory) × Takes taken taken' []))

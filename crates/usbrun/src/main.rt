@@ -1,8 +1,9 @@
 //! Replays a schedule of bus events, handler runs and task runs of a USB device, and answers each line.
 #![tactic(auto)]
 
+mod draft;
 mod head;
-mod next;
+mod lines;
 mod reader;
 mod run;
 mod session;

@@ -1,7 +1,8 @@
 ghost use Rattle.std.specs.Prelude.{◌≡◌, ℕ, ◌+◌, ◌-◌, ◌<◌, ◌≤◌, List, [], length, take, drop};
 ghost use Rattle.usb_edge.specs.Stream.{Reads, Rose, IsAtEnd};
 ghost use Rattle.usb_edge.specs.Outcome.{IfGot};
-ghost use Rattle.usbrun.specs.Stream.{Fills, most_line, IsLineBreak};
+ghost use Rattle.usb_text.specs.Rules.{most_line};
+ghost use Rattle.usbrun.specs.Stream.{Fills, IsLineBreak};
 
 use memchr::memchr;
 use std::marker::Model;
@@ -9,9 +10,6 @@ use usb_edge::{Got, Source};
 
 /// How many bytes one read may bring.
 const BLOCK: usize = 32768;
-
-/// The most bytes that a line has.
-pub const MOST_LINE: usize = 8400;
 
 /// The bytes that were read from a source and not yet taken.
 #[derive(Drop)]
@@ -63,7 +61,7 @@ impl Reader {
         ensures fills { Fills (S.left src.old) (S.left src.new) self.old self.new }
         ensures grows { IfGot result (λ n. length self.old < length self.new) }
         ensures end { result ≡ Got.End → IsAtEnd (S.left src.new) × (self.new ≡ self.old) }
-        ensures failed { result ≡ Got.Failed → Rose (S.faults src.old) (S.faults src.new) }
+        ensures failed { result ≡ Got.Failed → Rose (S.faults src.old) (S.faults src.new) × (self.new ≡ self.old) }
         ensures count { S.faults src.old ≤ S.faults src.new }
     {
         let len = self.end - self.start;

@@ -1,16 +1,19 @@
-ghost use Rattle.std.specs.Prelude.{◌≡◌, ◌+◌, ◌≤◌, ◌<◌, [], ◌++◌, Some, false, length, IsTrue, IfNone};
-ghost use Rattle.usb_edge.specs.Stream.{Rose};
+ghost use Rattle.std.specs.Prelude.{◌≡◌, ◌+◌, ◌≤◌, ◌<◌, [], ◌++◌, Some, false, IfNone, IsTrue, true};
+ghost use Rattle.usb_edge.specs.Stream.{Rose, IsAtEnd};
 ghost use Rattle.device_machine.specs.Core.{start};
+ghost use Rattle.usb_text.specs.Scheduled.{device_line};
 ghost use Rattle.device_schedule.specs.Schedule.{core_answer, core_after, answer_line};
 ghost use Rattle.device_schedule.specs.Job.{most_bytes};
-ghost use Rattle.usbrun.specs.Stream.{IsLineBreak};
-ghost use Rattle.usbrun.specs.Session.{Looks, Finds, Keeps, TakesLine, IsLast, Goes, Runs};
+ghost use Rattle.usbrun.specs.Stream.{HasRoom};
+ghost use Rattle.usbrun.specs.Lines.{IsLineAt};
+ghost use Rattle.usbrun.specs.Session.{Looks, FindsNext, Keeps, TakesLine, Goes, Runs};
 
-use crate::next::{Next, next_line};
+use crate::lines::Next;
 use crate::reader::line_break;
 use crate::session::{Session, Stop};
 use usb_edge::{Sink, Source};
-use usb_text::{DevLine, Line, read_schedule};
+use usb_packet::BusAnswer;
+use usb_text::{DevCall, ScheduleLine, ServedLine, read_schedule};
 
 /// The most bytes that a job has, up to and with its last line.
 const MOST_BYTES: u64 = 1_073_741_824;
@@ -18,10 +21,13 @@ const MOST_BYTES: u64 = 1_073_741_824;
 #[tactic(auto, using(crate::proofs::Turns::progress_start, crate::proofs::Turns::progress_more))]
 /// Runs the schedule line by line until it stops.
 pub fn run_schedule<S: Source, K: Sink>(session: &mut Session, src: &mut S, out: &mut K) -> Stop
-    requires count { session.old.count ≤ most_bytes }
+    requires count { session.old.lines.count ≤ most_bytes }
+    requires lines { session.old.lines.lines ≤ session.old.lines.count }
+    requires ended { (session.old.lines.ended ≡ true) → IsAtEnd (S.left src.old) }
     requires start { session.old.run.core ≡ start }
     requires empty { session.old.writer ≡ [] }
     ensures runs { Runs result (S.left src.old) (S.left src.new) (K.taken out.old) (K.taken out.new) session.old session.new }
+    ensures ended { (session.new.lines.ended ≡ true) → IsAtEnd (S.left src.new) }
     ensures source { S.faults src.old ≤ S.faults src.new }
     ensures sink { K.faults out.old ≤ K.faults out.new }
     ensures read_fault { result ≡ Stop.ReadFault → Rose (S.faults src.old) (S.faults src.new) }
@@ -36,8 +42,11 @@ pub fn run_schedule<S: Source, K: Sink>(session: &mut Session, src: &mut S, out:
 
 /// Reads the next line of the schedule and answers it, or tells why the run ends.
 fn go_on<S: Source, K: Sink>(session: &mut Session, src: &mut S, out: &mut K) -> Option<Stop>
-    requires { session.old.count ≤ most_bytes }
+    requires count { session.old.lines.count ≤ most_bytes }
+    requires lines { session.old.lines.lines ≤ session.old.lines.count }
+    requires ended { (session.old.lines.ended ≡ true) → IsAtEnd (S.left src.old) }
     ensures goes { Goes result (S.left src.old) (S.left src.new) (K.taken out.old) (K.taken out.new) session.old session.new }
+    ensures ended { (session.new.lines.ended ≡ true) → IsAtEnd (S.left src.new) }
     ensures source { S.faults src.old ≤ S.faults src.new }
     ensures sink { K.faults out.old ≤ K.faults out.new }
     ensures read_fault { result ≡ Some Stop.ReadFault → Rose (S.faults src.old) (S.faults src.new) }
@@ -45,55 +54,58 @@ fn go_on<S: Source, K: Sink>(session: &mut Session, src: &mut S, out: &mut K) ->
 {
     match look(session, src, out) {
         Some(Next::Line(n)) => take_line(session, n, out),
-        Some(Next::Rest) => Some(last_line(session)),
-        Some(Next::TooLong) => Some(Stop::Refused),
+        Some(Next::Nothing) => Some(Stop::Short),
+        Some(Next::TooLong) => Some(Stop::Refused(1)),
         Some(Next::ReadFault) => Some(Stop::ReadFault),
         None => Some(Stop::WriteFault),
     }
 }
 
+#[tactic(auto, using(crate::proofs::Gone::finds_nothing, crate::proofs::Gone::line_found))]
 /// Looks for the next line. What waits is handed on before anything is read; where that fails there is none.
 fn look<S: Source, K: Sink>(session: &mut Session, src: &mut S, out: &mut K) -> Option<Next>
+    requires { (session.old.lines.ended ≡ true) → IsAtEnd (S.left src.old) }
     ensures looks { Looks (S.left src.old) (S.left src.new) (K.taken out.old) (K.taken out.new) session.old session.new }
-    ensures finds { Finds result session.new (S.left src.new) (S.faults src.old) (S.faults src.new) }
+    ensures next { FindsNext result session.new (S.faults src.old) (S.faults src.new) }
+    ensures ended { (session.new.lines.ended ≡ true) → IsAtEnd (S.left src.new) }
     ensures failed { IfNone result (Rose (K.faults out.old) (K.faults out.new)) }
     ensures source { S.faults src.old ≤ S.faults src.new }
     ensures sink { K.faults out.old ≤ K.faults out.new }
 {
-    if let Some(n) = line_break(session.reader.ahead()) {
+    if let Some(n) = line_break(session.lines.reader.ahead()) {
         return Some(Next::Line(n));
     }
     if !session.writer.flush(out) {
         return None;
     }
-    Some(next_line(&mut session.reader, src))
+    Some(session.lines.find(src))
 }
 
 /// Answers the line of `n` bytes that stands in front, and takes it with its newline.
 fn take_line<K: Sink>(session: &mut Session, n: usize, out: &mut K) -> Option<Stop>
-    requires count { session.old.count ≤ most_bytes }
-    requires line { IsLineBreak session.old.reader (Some n) }
+    requires count { session.old.lines.count ≤ most_bytes }
+    requires lines { session.old.lines.lines ≤ session.old.lines.count }
+    requires line { IsLineAt n session.old.lines }
     ensures takes { TakesLine result n (K.taken out.old) (K.taken out.new) session.old session.new }
+    ensures read_fault { result ≡ Some Stop.ReadFault → ⊥ }
     ensures failed { result ≡ Some Stop.WriteFault → Rose (K.faults out.old) (K.faults out.new) }
     ensures sink { K.faults out.old ≤ K.faults out.new }
 {
-    let line = match read_schedule(&session.reader.ahead()[..n]) {
-        Some(line) => line,
-        None => return Some(Stop::Refused),
+    let line = match read_schedule(session.lines.line(n)) {
+        Ok(line) => line,
+        Err(fault) => return Some(Stop::Refused(fault.rule)),
     };
-    let count = session.count + n as u64 + 1;
-    if count > MOST_BYTES {
-        return Some(Stop::Refused);
+    if session.lines.count + session.lines.size(n) as u64 > MOST_BYTES {
+        return Some(Stop::TooLong);
     }
     match line {
-        Line::End => Some(Stop::End),
-        Line::Device(line) => {
+        ScheduleLine::End => Some(Stop::End),
+        ScheduleLine::Served(line) => {
             if !make_room(session, out) {
                 return Some(Stop::WriteFault);
             }
             answer(session, &line);
-            session.reader.skip(n + 1);
-            session.count = count;
+            session.lines.take(n);
             None
         }
     }
@@ -102,7 +114,7 @@ fn take_line<K: Sink>(session: &mut Session, n: usize, out: &mut K) -> Option<St
 /// Makes room for one answer, by handing on what waits where there is none: whether there is room.
 fn make_room<K: Sink>(session: &mut Session, out: &mut K) -> bool
     ensures keeps { Keeps (K.taken out.old) (K.taken out.new) session.old session.new }
-    ensures room { IsTrue result → length session.new.writer + 135 ≤ 8192 }
+    ensures room { IsTrue result → HasRoom session.new.writer }
     ensures failed { result ≡ false → Rose (K.faults out.old) (K.faults out.new) }
     ensures sink { K.faults out.old ≤ K.faults out.new }
 {
@@ -113,26 +125,28 @@ fn make_room<K: Sink>(session: &mut Session, out: &mut K) -> bool
 }
 
 /// Lets the device answer a line, and puts the answer behind what waits.
-fn answer(session: &mut Session, line: &DevLine)
-    requires { length session.old.writer + 135 ≤ 8192 }
-    ensures writer { session.new.writer ≡ session.old.writer ++ answer_line (core_answer session.old.run.core line.now) }
-    ensures run { session.new.run ≡ record session.old.run { core = core_after session.old.run.descriptor session.old.run.core line.now } }
-    ensures reader { session.new.reader ≡ session.old.reader }
-    ensures count { session.new.count ≡ session.old.count }
+fn answer(session: &mut Session, line: &ServedLine)
+    requires { HasRoom session.old.writer }
+    ensures writer { session.new.writer ≡ session.old.writer ++ answer_line (core_answer session.old.run.core (device_line line.now)) }
+    ensures run { session.new.run ≡ record session.old.run { core = core_after session.old.run.set session.old.run.core (device_line line.now) } }
+    ensures lines { session.new.lines ≡ session.old.lines }
 {
-    let answer = session.run.step(line);
-    session.writer.push(&answer);
-}
-
-/// What the last line of a source is, which has no newline.
-fn last_line(session: &Session) -> Stop
-    requires { session.now.count ≤ most_bytes }
-    ensures { IsLast result session.now }
-{
-    let rest = session.reader.ahead();
-    if rest == b"end".as_slice() && session.count + 3 <= MOST_BYTES {
-        Stop::End
-    } else {
-        Stop::Refused
+    match line {
+        ServedLine::Bus(event) => {
+            let answer = session.run.bus(event);
+            session.writer.push_bus(&answer);
+        }
+        ServedLine::Irq => {
+            session.run.irq();
+            session.writer.push_bus(&BusAnswer::Done);
+        }
+        ServedLine::Task => {
+            session.run.task();
+            session.writer.push_bus(&BusAnswer::Done);
+        }
+        ServedLine::State => {
+            let reply = session.run.reply(&DevCall::State);
+            session.writer.push_reply(&reply);
+        }
     }
 }

@@ -1,18 +1,16 @@
-use crate::reader::Reader;
+use crate::lines::Lines;
 use crate::writer::Writer;
 use device_run::DeviceRun;
 
 /// A run between two lines of its schedule.
 #[derive(Drop)]
 pub struct Session {
-    /// What was read ahead.
-    pub reader: Reader,
+    /// The lines of its source.
+    pub lines: Lines,
     /// What waits to be written.
     pub writer: Writer,
     /// The device.
     pub run: DeviceRun,
-    /// How many bytes the lines so far have, with their newlines.
-    pub count: u64,
 }
 
 /// Why a run ended.
@@ -20,8 +18,12 @@ pub struct Session {
 pub enum Stop {
     /// Its job ended.
     End,
-    /// What follows is not the rest of a job.
-    Refused,
+    /// The next line breaks this rule, of 1 to 7.
+    Refused(u8),
+    /// The source ended.
+    Short,
+    /// The next line passes the limit of bytes.
+    TooLong,
     /// The source failed.
     ReadFault,
     /// The sink failed.

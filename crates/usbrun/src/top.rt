@@ -1,23 +1,30 @@
-ghost use Rattle.std.specs.Prelude.{◌≡◌, ◌≤◌, ◌↔◌, map, IsTrue};
+ghost use Rattle.std.specs.Prelude.{◌≡◌, ◌≤◌, ◌<◌, ◌+◌, ◌^◌, ◌↔◌, None, Some, map, length, is_some, IsTrue, IfOk, IfErr};
+ghost use Rattle.std.specs.Option.{option_map};
+ghost use Rattle.usb_descriptor.specs.Strings.{Ascend, string_descriptor};
+ghost use Rattle.usb_descriptor.specs.Verdict.{verdict};
+ghost use Rattle.device_schedule.specs.Job.{limits};
 ghost use Rattle.usbrun.specs.Stream.{Hands};
-ghost use Rattle.usbrun.specs.Finish.{Finishes};
-ghost use Rattle.usbrun.specs.Top.{IsDevice, Ends, Cause};
+ghost use Rattle.usbrun.specs.Finish.{Finishes, head_status, stop_status};
+ghost use Rattle.usbrun.specs.Status.{Tells};
+ghost use Rattle.usbrun.specs.Top.{IsDevice, Ends, Cause, Exact, Completes};
 
+use crate::draft::Draft;
 use crate::head::{NoHead, read_heads};
-use crate::reader::Reader;
+use crate::lines::Lines;
 use crate::run::run_schedule;
 use crate::session::{Session, Stop};
 use crate::status::Status;
-use crate::writer::Writer;
+use crate::writer::{Writer, hand_on};
 use device_run::DeviceRun;
 use std::alloc::Global;
+use usb_descriptor::{DescSet, EpLimits, SetFault, SetParts, read_set};
 use usb_edge::{Disks, Sink, Source};
 
 /// Runs the program: its words, where its job comes from, where its answers go, where its faults are told, and its
 /// disks.
 ///
 /// At `Ok` the source's bytes spell a job, and `out` took exactly the text of the answers of that job's schedule.
-/// The other statuses come exactly as their causes say. Nothing is told on `err` yet.
+/// The other statuses come exactly as their causes say, and `err` takes the line of the status.
 pub fn usb_top<S: Source, K: Sink, E: Sink, D: Disks>(
     alloc: Global,
     words: &[&str],
@@ -26,18 +33,41 @@ pub fn usb_top<S: Source, K: Sink, E: Sink, D: Disks>(
     err: &mut E,
     disks: &mut D,
 ) -> Status
-    ensures cause { Cause result (map (λ w. w.now) words.now) (S.left src.old) (S.faults src.old) (S.faults src.new) (K.taken out.old) (K.taken out.new) (K.faults out.old) (K.faults out.new) }
+    ensures cause { Cause result (map (λ w. w.now) words.now) (S.left src.old) (S.left src.new) (S.faults src.old) (S.faults src.new) (K.taken out.old) (K.taken out.new) (K.faults out.old) (K.faults out.new) }
+    ensures exact { Exact result (map (λ w. w.now) words.now) (S.left src.old) (S.faults src.old) (S.faults src.new) (K.faults out.old) (K.faults out.new) }
+    ensures complete { Completes result (map (λ w. w.now) words.now) (S.left src.old) (S.faults src.old) (S.faults src.new) (K.taken out.old) (K.taken out.new) (K.faults out.old) (K.faults out.new) }
+    ensures errors { Tells result (E.taken err.old) (E.taken err.new) (E.faults err.old) (E.faults err.new) }
     ensures source { S.faults src.old ≤ S.faults src.new }
     ensures sink { K.faults out.old ≤ K.faults out.new }
-    ensures errors { err.new ≡ err.old }
+    ensures errors_count { E.faults err.old ≤ E.faults err.new }
     ensures disks { disks.new ≡ disks.old }
 {
-    let _ = err;
     let _ = disks;
+    let status = run_words(alloc, words, src, out);
+    tell(status, err);
+    status
+}
+
+/// Runs the command of the words.
+fn run_words<S: Source, K: Sink>(alloc: Global, words: &[&str], src: &mut S, out: &mut K) -> Status
+    ensures cause { Cause result (map (λ w. w.now) words.now) (S.left src.old) (S.left src.new) (S.faults src.old) (S.faults src.new) (K.taken out.old) (K.taken out.new) (K.faults out.old) (K.faults out.new) }
+    ensures source { S.faults src.old ≤ S.faults src.new }
+    ensures sink { K.faults out.old ≤ K.faults out.new }
+{
     if !is_device(words) {
         return Status::Usage;
     }
     run_device(alloc, src, out)
+}
+
+#[tactic(auto, using(crate::proofs::Handed::line_told))]
+/// Tells a status by its line.
+fn tell<E: Sink>(status: Status, err: &mut E)
+    ensures tells { Tells status (E.taken err.old) (E.taken err.new) (E.faults err.old) (E.faults err.new) }
+    ensures count { E.faults err.old ≤ E.faults err.new }
+{
+    let line = status.line();
+    let _ = hand_on(line.as_slice(), err);
 }
 
 /// Whether the words are the one word `device`.
@@ -49,46 +79,114 @@ fn is_device(words: &[&str]) -> bool
 
 /// Runs a job.
 fn run_device<S: Source, K: Sink>(alloc: Global, src: &mut S, out: &mut K) -> Status
-    ensures ends { Ends result (S.left src.old) (S.faults src.old) (S.faults src.new) (K.taken out.old) (K.taken out.new) (K.faults out.old) (K.faults out.new) }
+    ensures ends { Ends result (S.left src.old) (S.left src.new) (S.faults src.old) (S.faults src.new) (K.taken out.old) (K.taken out.new) (K.faults out.old) (K.faults out.new) }
     ensures source { S.faults src.old ≤ S.faults src.new }
     ensures sink { K.faults out.old ≤ K.faults out.new }
 {
-    let mut reader = Reader::new();
-    let head = match read_heads(&mut reader, src) {
-        Ok(head) => head,
-        Err(NoHead::Refused) => return Status::BadJob { line: 0, rule: 0 },
-        Err(NoHead::ReadFault) => return Status::ReadFault,
+    let mut lines = Lines::new();
+    let draft = match read_heads(&mut lines, src) {
+        Ok(draft) => draft,
+        Err(fault) => return no_head(fault, lines.lines),
     };
-    let run = match DeviceRun::open(alloc, head.device.as_slice()) {
+    let set = match set_of(&draft) {
+        Ok(set) => set,
+        Err(fault) => {
+            return Status::BadSet {
+                rule: fault.rule,
+                at: fault.at,
+            };
+        }
+    };
+    let run = match DeviceRun::open(alloc, set) {
         Ok(run) => run,
         Err(_) => return Status::NoMemory,
     };
     let mut session = Session {
-        reader,
+        lines,
         writer: Writer::new(),
         run,
-        count: head.length,
     };
     let stop = run_schedule(&mut session, src, out);
-    finish(stop, &mut session.writer, out)
+    finish(stop, &mut session, out)
+}
+
+/// The set of descriptors of a head, where the controller takes it.
+fn set_of(draft: &Draft) -> Result<DescSet, SetFault>
+    requires few { length draft.now.strings.items ≤ 8 }
+    requires ascending { Ascend 1 draft.now.strings.items }
+    ensures refused { IfErr result (λ fault. verdict draft.now.device.items draft.now.config.items (is_some draft.now.report) limits ≡ Some fault) }
+    ensures accepted { IfOk result (λ _. verdict draft.now.device.items draft.now.config.items (is_some draft.now.report) limits ≡ None) }
+    ensures shows { IfOk result (λ set. set ≡ record {
+      device = draft.now.device.items;
+      config = draft.now.config.items;
+      strings = map string_descriptor draft.now.strings.items;
+      report = option_map (λ r. r.items) draft.now.report;
+    }) }
+{
+    let parts = SetParts {
+        device: draft.device.as_slice(),
+        config: draft.config.as_slice(),
+        strings: draft.strings.as_slice(),
+        report: draft.report(),
+    };
+    let limits = EpLimits {
+        in_top: 3,
+        out_top: 3,
+        report_known: true,
+    };
+    read_set(&parts, limits)
 }
 
 /// Hands on what waits, and tells how the run ends.
-fn finish<K: Sink>(stop: Stop, writer: &mut Writer, out: &mut K) -> Status
-    ensures hands { Hands (K.taken out.old) (K.taken out.new) writer.old writer.new }
-    ensures finishes { Finishes stop result writer.new (K.faults out.old) (K.faults out.new) }
+fn finish<K: Sink>(stop: Stop, session: &mut Session, out: &mut K) -> Status
+    requires { session.old.lines.lines + 1 < 2 ^ 32 }
+    ensures hands { Hands (K.taken out.old) (K.taken out.new) session.old.writer session.new.writer }
+    ensures finishes { Finishes stop session.old.lines.lines result session.new.writer (K.faults out.old) (K.faults out.new) }
     ensures sink { K.faults out.old ≤ K.faults out.new }
 {
     if stop == Stop::WriteFault {
         return Status::WriteFault;
     }
-    if !writer.flush(out) {
+    if !session.writer.flush(out) {
         return Status::WriteFault;
     }
+    status_of(stop, session.lines.lines)
+}
+
+/// The status of a head that isn't whole after so many lines.
+fn no_head(fault: NoHead, lines: u32) -> Status
+    requires { lines + 1 < 2 ^ 32 }
+    ensures { result ≡ head_status fault lines }
+{
+    match fault {
+        NoHead::Refused(rule) => bad_line(lines, rule),
+        NoHead::Short => Status::Short { lines },
+        NoHead::ReadFault => Status::ReadFault,
+    }
+}
+
+/// The status of a run that stopped after so many lines.
+fn status_of(stop: Stop, lines: u32) -> Status
+    requires { lines + 1 < 2 ^ 32 }
+    ensures { result ≡ stop_status stop lines }
+{
     match stop {
         Stop::End => Status::Ok,
-        Stop::Refused => Status::BadJob { line: 0, rule: 0 },
+        Stop::Refused(rule) => bad_line(lines, rule),
+        Stop::Short => Status::Short { lines },
+        Stop::TooLong => Status::TooLong,
         Stop::ReadFault => Status::ReadFault,
         Stop::WriteFault => Status::WriteFault,
+    }
+}
+
+/// The status where the line after so many lines is refused.
+fn bad_line(lines: u32, rule: u8) -> Status
+    requires { lines + 1 < 2 ^ 32 }
+    ensures { result ≡ Status.BadJob (lines + 1) rule }
+{
+    Status::BadJob {
+        line: lines + 1,
+        rule,
     }
 }

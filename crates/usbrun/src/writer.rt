@@ -1,21 +1,24 @@
 ghost use Rattle.std.specs.Prelude.{◌≡◌, ℕ, ◌+◌, ◌<◌, ◌≤◌, ◌↔◌, List, [], ◌++◌, false, length, take, drop, IsTrue};
 ghost use Rattle.arrayvec.specs.ArrayVec.{array_vec_len};
 ghost use Rattle.usb_edge.specs.Stream.{Takes, Rose};
+ghost use Rattle.usb_text.specs.declared.line.Answer.TheVariants.{Bus, Reply as TheReply};
 ghost use Rattle.device_schedule.specs.Schedule.{answer_line};
-ghost use Rattle.usbrun.specs.Stream.{Hands};
+ghost use Rattle.usbrun.specs.Stream.{Hands, HasRoom};
 
 use arrayvec::ArrayVec;
 use std::marker::Model;
 use usb_edge::{Sink, Wrote};
-use usb_text::{Answer, MOST_ANSWER, push_answer};
+use usb_packet::BusAnswer;
+use usb_pipe::Reply;
+use usb_text::{MOST_ANSWER, push_bus_line, push_reply_line};
 
 /// How many bytes wait at most.
-const BLOCK: usize = 8192;
+const BLOCK: usize = 32768;
 
 /// The text that waits to be written.
 #[derive(Drop)]
 pub struct Writer {
-    waiting: ArrayVec<u8, 8192>,
+    waiting: ArrayVec<u8, 32768>,
 }
 
 impl Model for Writer {
@@ -23,7 +26,7 @@ impl Model for Writer {
 
     ghost view = { λ w. w.waiting.items };
 
-    ghost invariant = { λ w. length w.waiting.items ≤ 8192 };
+    ghost invariant = { λ w. length w.waiting.items ≤ 32768 };
 }
 
 impl Writer {
@@ -38,17 +41,25 @@ impl Writer {
 
     /// Whether one answer more has room.
     pub fn has_room(&self) -> bool
-        ensures { IsTrue result ↔ (length self.now + 135 ≤ 8192) }
+        ensures { IsTrue result ↔ HasRoom self.now }
     {
         self.waiting.len() + MOST_ANSWER <= BLOCK
     }
 
-    /// Puts an answer's line behind what waits.
-    pub fn push(&mut self, answer: &Answer)
-        requires { length self.old + 135 ≤ 8192 }
-        ensures { self.new ≡ self.old ++ answer_line answer.now }
+    /// Puts the line of what the device answers on the bus behind what waits.
+    pub fn push_bus(&mut self, answer: &BusAnswer)
+        requires { HasRoom self.old }
+        ensures { self.new ≡ self.old ++ answer_line (Bus answer.now) }
     {
-        push_answer(&mut self.waiting, answer);
+        push_bus_line(&mut self.waiting, answer);
+    }
+
+    /// The same of a reply.
+    pub fn push_reply(&mut self, reply: &Reply)
+        requires { HasRoom self.old }
+        ensures { self.new ≡ self.old ++ answer_line (TheReply reply.now) }
+    {
+        push_reply_line(&mut self.waiting, reply);
     }
 
     /// Hands on all that waits: whether the sink took it.
@@ -71,7 +82,7 @@ impl Writer {
 }
 
 /// What stands behind the first `n` bytes.
-fn rest_of(bytes: &ArrayVec<u8, 8192>, n: usize) -> ArrayVec<u8, 8192>
+fn rest_of(bytes: &ArrayVec<u8, 32768>, n: usize) -> ArrayVec<u8, 32768>
     requires { n ≤ array_vec_len bytes.now }
     ensures { result.items ≡ drop n bytes.now.items }
 {
@@ -82,7 +93,7 @@ fn rest_of(bytes: &ArrayVec<u8, 8192>, n: usize) -> ArrayVec<u8, 8192>
 
 #[tactic(auto, using(crate::proofs::Handed::none_taken))]
 /// Hands bytes to a sink until it took all or failed: how many it took.
-fn hand_on<K: Sink>(bytes: &[u8], out: &mut K) -> usize
+pub fn hand_on<K: Sink>(bytes: &[u8], out: &mut K) -> usize
     ensures within { result ≤ length bytes.now }
     ensures takes { Takes (K.taken out.old) (K.taken out.new) (take result bytes.now) }
     ensures failed { result < length bytes.now → Rose (K.faults out.old) (K.faults out.new) }

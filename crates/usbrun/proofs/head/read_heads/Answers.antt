@@ -1,14 +1,12 @@
-use Rattle.std.proofs.Common.{◌≡◌, ◌+◌, ◌*◌, length, arith}
-use Rattle.usbrun.proofs.Heads.{third_fails, all_taken}
+use Rattle.std.proofs.Common.{sym}
+use Rattle.usbrun.proofs.Heads.{heads_more, heads_whole, heads_fail}
 use Rattle.usbrun.proofs.head.read_heads.Goals as goal
 
-pub returns-in-Ok-take_begin-clause-heads : goal.returns-in-Ok-take_begin-clause-heads
-returns-in-Ok-take_begin-clause-heads g c =
-    let config = c.in-Ok-take_config.ensures.config in
-    let size : c.head_length-length.result ≡ 22 + 2 * length c.in-Ok.device.items + 2 * length config.0.items = omega (arith, config.2) in
-    all_taken c.in-Ok.device config.0 c.head_length-length.result _ _ _ _ _ _ _ _ c.in-Ok.ensures.device.0 c.in-Ok.ensures.device.1 config.1 c.in-Ok-take_begin.ensures.begin size
+pub returns-in-Err-clause-heads : goal.returns-in-Err-clause-heads
+returns-in-Err-clause-heads g c =
+    heads_fail c.in-Err.fault c.heads.draft _ _ _ _ _ _ _ _ _ c.heads.invariant.so_far c.heads.invariant.unfinished c.heads.invariant.count c.in-Err.ensures.head
 
-pub returns-in-Err-take_begin-clause-heads : goal.returns-in-Err-take_begin-clause-heads
-returns-in-Err-take_begin-clause-heads g c =
-    let config = c.in-Ok-take_config.ensures.config in
-    third_fails c.in-Err-take_begin.fault c.in-Ok.device config.0 _ _ _ _ _ _ _ _ _ _ _ c.in-Ok.ensures.device.0 c.take_device.ensures.count config.1 c.take_config.ensures.count c.in-Err-take_begin.ensures.begin
+pub returns-then-is_whole-clause-heads : goal.returns-then-is_whole-clause-heads
+returns-then-is_whole-clause-heads g c =
+    let more = heads_more c.heads.draft c.in-Ok.line _ _ _ _ _ _ c.heads.invariant.so_far c.in-Ok.ensures.head in
+    heads_whole c.add.new.self _ _ _ _ (rw c.add.ensures more) (sym c.if-is_whole.ensures)

@@ -1,17 +1,12 @@
-use Rattle.usbrun.proofs.Turns.{goes_line, halts_at_last, halts_too_long}
+use Rattle.usbrun.proofs.Turns.{goes_line, halts_long}
 use Rattle.usbrun.proofs.run.go_on.Goals as goal
 
 pub returns-in-Some-Line-clause-goes : goal.returns-in-Some-Line-clause-goes
 returns-in-Some-Line-clause-goes g c =
-    let found = rw c.in-Some-Line.field-0-is at c.in-Some-Line.ensures.finds in
-    goes_line c.take_line.result c.in-Some-Line.n _ _ _ _ _ _ _ _ c.in-Some-Line.ensures.looks found c.take_line.ensures.takes
-
-pub returns-in-Some-Rest-clause-goes : goal.returns-in-Some-Rest-clause-goes
-returns-in-Some-Rest-clause-goes g c =
-    let found = rw c.in-Some-Rest.field-0-is at c.in-Some-Rest.ensures.finds in
-    halts_at_last c.last_line.result _ _ _ _ _ _ c.in-Some-Rest.ensures.looks found c.last_line.ensures
+    let found = rw c.in-Some-Line.field-0-is at c.in-Some-Line.ensures.next in
+    goes_line c.take_line.result c.in-Some-Line.n _ _ _ _ _ _ _ _ c.in-Some-Line.ensures.looks found c.in-Some-Line.ensures.ended c.take_line.ensures.takes
 
 pub returns-in-Some-TooLong-clause-goes : goal.returns-in-Some-TooLong-clause-goes
 returns-in-Some-TooLong-clause-goes g c =
-    let found = rw c.in-Some-TooLong.field-0-is at c.in-Some-TooLong.ensures.finds in
-    halts_too_long _ _ _ _ _ _ c.in-Some-TooLong.ensures.looks found
+    let found = rw c.in-Some-TooLong.field-0-is at c.in-Some-TooLong.ensures.next in
+    halts_long _ _ _ _ _ _ c.in-Some-TooLong.ensures.looks found.0 found.1

@@ -1,23 +1,35 @@
 use Rattle.std.proofs.Common.{refl, ap, ◌∙◌, arith}
-use Rattle.usbd_core.specs.Device.{Device}
+use Rattle.usbd_core.specs.Device.{Device as Run}
 use Rattle.usb_edge.proofs.Streams.{rose_within}
-use Rattle.usbrun.proofs.Endings.{run_ends, refused_ends, memory_ends}
+use Rattle.usbrun.proofs.Endings.{head_ends, set_ends, memory_ends, accepted, set_shows, run_ends}
 use Rattle.usbrun.proofs.top.run_device.Goals as goal
 
-pub returns-in-Err-Refused-clause-ends : goal.returns-in-Err-Refused-clause-ends
-returns-in-Err-Refused-clause-ends g c =
-    let failed = rw c.in-Err-Refused.field-0-is at c.in-Err-Refused.ensures.heads in
-    refused_ends _ _ (g.S.Source.faults c.args.src.now) (g.S.Source.faults c.read_heads.new.src) (g.K.Sink.faults c.args.out.now) _ (rw c.new-reader.ensures at failed)
-
 pub returns-in-Err-clause-ends : goal.returns-in-Err-clause-ends
-returns-in-Err-clause-ends g c = memory_ends c.in-Ok.head _ _ _ (g.S.Source.faults c.args.src.now) (g.S.Source.faults c.read_heads.new.src) (g.K.Sink.faults c.args.out.now) _ (rw c.new-reader.ensures at c.in-Ok.ensures.heads)
+returns-in-Err-clause-ends g c =
+    let stops = rw c.new-lines.ensures at c.in-Err.ensures.heads in
+    rw c.no_head.ensures (head_ends c.in-Err.fault _ _ (g.S.Source.faults c.args.src.now) (g.S.Source.faults c.read_heads.new.src) (g.K.Sink.faults c.args.out.now)
+    c.read_heads.new.lines _ stops c.in-Err.ensures.ended)
+
+pub returns-in-Err-set_of-clause-ends : goal.returns-in-Err-set_of-clause-ends
+returns-in-Err-set_of-clause-ends g c =
+    let heads = rw c.new-lines.ensures at c.in-Ok.ensures.heads in
+    set_ends c.in-Ok.draft _ _ c.read_heads.new.lines heads.0 c.in-Ok.ensures.ended (g.S.Source.faults c.args.src.now) (g.S.Source.faults c.read_heads.new.src)
+    (g.K.Sink.faults c.args.out.now) _ c.in-Err-set_of.fault heads.1 c.in-Err-set_of.ensures.refused
+
+pub returns-in-Err-open-clause-ends : goal.returns-in-Err-open-clause-ends
+returns-in-Err-open-clause-ends g c =
+    let heads = rw c.new-lines.ensures at c.in-Ok.ensures.heads in
+    memory_ends c.in-Ok.draft _ _ c.read_heads.new.lines heads.0 c.in-Ok.ensures.ended (g.S.Source.faults c.args.src.now) (g.S.Source.faults c.read_heads.new.src)
+    (g.K.Sink.faults c.args.out.now) _ heads.1 c.in-Ok-set_of.ensures.accepted
 
 pub returns-clause-ends : goal.returns-clause-ends
 returns-clause-ends g c =
-    let taken = rw c.new-reader.ensures at c.in-Ok.ensures.heads in
-    run_ends c.in-Ok.head _ _ _ _ taken _ _ _ _ _
-    (record { reader = refl; descriptor = ap (λ (d : Device). d.descriptor) c.in-Ok-open.ensures ∙ c.as_slice.ensures.value; count = refl })
-    c.run_schedule-stop.result c.run_schedule-stop.ensures.runs _ c.finish.ensures.hands _ _ _ _ _
+    let heads = rw c.new-lines.ensures at c.in-Ok.ensures.heads in
+    let reads = g.S.Source.faults c.args.src.now in
+    let ok = accepted c.in-Ok.draft _ _ c.read_heads.new.lines heads.0 c.in-Ok.ensures.ended reads reads reads (g.K.Sink.taken c.args.out.now) heads.1 c.in-Ok-set_of.ensures.accepted in
+    let shows = set_shows c.in-Ok.draft _ _ c.read_heads.new.lines heads.0 c.in-Ok.ensures.ended reads reads reads (g.K.Sink.taken c.args.out.now) c.in-Ok-set_of.set c.in-Ok-set_of.ensures.shows in
+    run_ends _ _ _ c.in-Ok.draft c.read_heads.new.lines heads.0 ok _ _ _ _ c.run_schedule-stop.new.session refl (ap (λ (r : Run). r.set) c.in-Ok-open.ensures ∙ shows)
+    c.run_schedule-stop.ensures.ended c.run_schedule-stop.result c.run_schedule-stop.ensures.runs _ c.finish.ensures.hands _ _ _ _ _
     c.finish.result c.finish.ensures.finishes c.run_schedule-stop.ensures.sink c.finish.ensures.sink
     (λ e. rose_within _ _ _ _ c.read_heads.ensures.count (c.run_schedule-stop.ensures.read_fault e) (omega arith))
     c.run_schedule-stop.ensures.write_fault
