@@ -1,6 +1,6 @@
 -- The controller with what is told of the accesses to it: how many more may be made, the list of those made, and the bus
 -- events that are due between two of them.
-use Rattle.std.specs.Prelude.{ℕ, ◌+◌, ◌-◌, ◌==◌, nat_le, true, false, if◌then◌else◌, List, [], ◌∷◌, ◌++◌}
+use Rattle.std.specs.Prelude.{ℕ, ◌+◌, ◌-◌, ◌==◌, min, nat_le, true, false, if◌then◌else◌, List, [], ◌∷◌, ◌++◌}
 use Rattle.usb_packet.specs.declared.bus.Toggle.TheVariants.{D0, D1}
 use Rattle.usb_packet.specs.declared.bus.BusEvent.{BusEvent}
 use Rattle.usb_packet.specs.declared.bus.BusEvent.TheVariants as event
@@ -23,7 +23,7 @@ pub record Bank : Type 0 where
   pub spare : ℕ
   -- the accesses since the last `begin`, the oldest first
   pub log : List Access
-  -- the bus events to come, in order, and the accesses made since they were set
+  -- the bus events to come, in order, and the accesses made since they were set, up to 65,535
   pub due : List During
   pub made : ℕ
   -- the answers of those that came
@@ -32,6 +32,13 @@ pub record Bank : Type 0 where
 -- the most accesses between two `begin`s
 abbrev pub most_accesses : ℕ
 most_accesses = 400
+
+-- a count of accesses after one more; at its last value it stands still
+abbrev pub last_made : ℕ
+last_made = 65535
+
+abbrev pub counted : ℕ → ℕ
+counted made = min (made + 1) last_made
 
 abbrev pub begun : Bank → Bank
 begun bank = record bank { spare = most_accesses; log = [] }
@@ -59,7 +66,7 @@ settled bank (next ∷ later) =
 -- an access is a step of the table, and then what is due acts
 abbrev pub logged : Bank → Access → Table → Bank
 logged bank access table =
-    let now = record bank { table = table; spare = bank.spare - 1; log = bank.log ++ access ∷ []; made = bank.made + 1 } in
+    let now = record bank { table = table; spare = bank.spare - 1; log = bank.log ++ access ∷ []; made = counted bank.made } in
     settled now bank.due
 
 abbrev pub bank_read : Bank → ℕ → Bank

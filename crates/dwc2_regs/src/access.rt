@@ -21,7 +21,7 @@ pub const FS4: Profile = Profile {
 };
 
 /// One access to a register or a FIFO window: whether it wrote, the offset, and the word read or written.
-#[derive(Clone, Copy, Debug, PartialEq, Eq)]
+#[derive(Clone, Copy, Debug, Default, PartialEq, Eq)]
 pub struct Access {
     pub write: bool,
     pub off: u16,
