@@ -1,0 +1,4 @@
+pub mod SetupLemmas
+pub mod ReadLemmas
+pub mod WriteLemmas
+pub mod ListLemmas

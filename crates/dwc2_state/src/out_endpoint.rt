@@ -1,0 +1,155 @@
+ghost use Rattle.std.specs.Prelude.{◌≡◌, true};
+ghost use Rattle.usb_packet.specs.declared.bus.Toggle.TheVariants.{D1};
+ghost use Rattle.controller_table.specs.State.{no_out_end};
+ghost use Rattle.controller_table.specs.Read.{doepint_word};
+ghost use Rattle.controller_table.specs.Write.{out_control_written};
+ghost use Rattle.controller_table.specs.Bus.{control_at_setup, out_landed};
+ghost use Rattle.dwc2_state.specs.Ends.{out_written};
+
+use crate::bits::{flag, flipped, with_flag};
+use crate::control::ControlRegister;
+use crate::place::OutRegister;
+use dwc2_regs::{DIEPCTL_EPDIS, DIEPCTL_SD0PID, DOEPINT_EPDISD, DOEPINT_STUP, DOEPINT_XFRC};
+use std::marker::Model;
+use usb_packet::Toggle;
+
+/// One OUT endpoint.
+#[derive(Drop)]
+pub struct OutEndpoint {
+    control: ControlRegister,
+    toggle: Toggle,
+    xfrc: bool,
+    epdisd: bool,
+    stup: bool,
+    tsiz: u32,
+}
+
+impl Model for OutEndpoint {
+    ghost use Rattle.controller_table.specs.State.{OutEnd};
+
+    ghost Value = { OutEnd };
+
+    ghost view = { λ e. record { control = e.control; toggle = e.toggle; xfrc = e.xfrc; epdisd = e.epdisd; stup = e.stup; tsiz = e.tsiz } };
+}
+
+impl OutEndpoint {
+    /// All is 0.
+    pub fn new() -> OutEndpoint
+        ensures { result ≡ no_out_end }
+    {
+        OutEndpoint {
+            control: ControlRegister::new(),
+            toggle: Toggle::D0,
+            xfrc: false,
+            epdisd: false,
+            stup: false,
+            tsiz: 0,
+        }
+    }
+
+    /// Its control register.
+    pub fn control(&self) -> &ControlRegister
+        ensures { result.now ≡ self.now.control }
+    {
+        &self.control
+    }
+
+    /// The toggle of its next packet.
+    pub fn toggle(&self) -> Toggle
+        ensures { result ≡ self.now.toggle }
+    {
+        self.toggle
+    }
+
+    /// Whether DOEPINTx has XFRC.
+    pub fn is_complete(&self) -> bool
+        ensures { result ≡ self.now.xfrc }
+    {
+        self.xfrc
+    }
+
+    /// Whether DOEPINTx has EPDISD.
+    pub fn was_disabled(&self) -> bool
+        ensures { result ≡ self.now.epdisd }
+    {
+        self.epdisd
+    }
+
+    /// Whether DOEPINTx has STUP.
+    pub fn has_setup(&self) -> bool
+        ensures { result ≡ self.now.stup }
+    {
+        self.stup
+    }
+
+    /// DOEPINTx.
+    pub fn interrupts(&self) -> u32
+        ensures { result ≡ doepint_word self.now }
+    {
+        let word = with_flag(0, DOEPINT_XFRC, self.xfrc);
+        let word = with_flag(word, DOEPINT_EPDISD, self.epdisd);
+        with_flag(word, DOEPINT_STUP, self.stup)
+    }
+
+    /// DOEPTSIZx.
+    pub fn size(&self) -> u32
+        ensures { result ≡ self.now.tsiz }
+    {
+        self.tsiz
+    }
+
+    /// A word is written to one of its registers; CNAK has its effect where `cnak_acts`.
+    pub fn write(&mut self, cnak_acts: bool, register: OutRegister, word: u32)
+        ensures { self.new ≡ out_written cnak_acts register word self.old }
+    {
+        match register {
+            OutRegister::Control => self.write_control(cnak_acts, word),
+            OutRegister::Interrupts => {
+                self.xfrc = self.xfrc && !flag(word, DOEPINT_XFRC);
+                self.epdisd = self.epdisd && !flag(word, DOEPINT_EPDISD);
+                self.stup = self.stup && !flag(word, DOEPINT_STUP);
+            }
+            OutRegister::Size => self.tsiz = word,
+        }
+    }
+
+    fn write_control(&mut self, cnak_acts: bool, word: u32)
+        ensures { self.new ≡ out_control_written cnak_acts self.old word }
+    {
+        self.control.write(word, cnak_acts);
+        if flag(word, DIEPCTL_SD0PID) {
+            self.toggle = Toggle::D0;
+        }
+        self.epdisd = self.epdisd || flag(word, DIEPCTL_EPDIS);
+    }
+
+    /// The end of a SETUP was popped.
+    pub fn end_setup(&mut self)
+        ensures { self.new ≡ record self.old { stup = true } }
+    {
+        self.stup = true;
+    }
+
+    /// The end of a packet was popped.
+    pub fn complete(&mut self)
+        ensures { self.new ≡ record self.old { xfrc = true } }
+    {
+        self.xfrc = true;
+    }
+
+    /// A SETUP came: it is disabled and answers NAK, and the next packet is DATA1.
+    pub fn meet_setup(&mut self)
+        ensures { self.new ≡ record self.old { control = control_at_setup self.old.control; toggle = D1 } }
+    {
+        self.control.meet_setup();
+        self.toggle = Toggle::D1;
+    }
+
+    /// A packet landed on it.
+    pub fn land(&mut self)
+        ensures { self.new ≡ out_landed self.old }
+    {
+        self.control.rest();
+        self.toggle = flipped(self.toggle);
+    }
+}
