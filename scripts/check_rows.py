@@ -1,8 +1,8 @@
 #!/usr/bin/env python3
 """Runs the worked rows of a folder on the built program: check_rows.py BINARY FOLDER
 
-Only rows that this state of the program serves are run. What it tells on its standard error isn't compared where
-the row wants a line there, since no such line is written yet.
+Only rows that this state of the program serves are run. The status, the answers and the line of the status are compared
+whole.
 """
 
 import json
@@ -10,7 +10,12 @@ import pathlib
 import subprocess
 import sys
 
-SERVED = ("row01a", "row01b", "row02", "row03a", "row04", "row25c")
+SERVED = ("row01a", "row01b", "row02", "row03a", "row03b", "row04", "row06", "row25a", "row25b", "row25c")
+
+
+def wanted_of(row):
+    out = row["out"] if "out" in row else "\n".join(row["answers"]) + "\n"
+    return row["status"], out.encode(), row["err"].encode()
 
 
 def main():
@@ -22,9 +27,9 @@ def main():
             continue
         row = json.loads(path.read_text())
         done = subprocess.run([binary, *row["words"]], input=row["job"].encode(), capture_output=True, timeout=60)
-        wanted = (row["status"], row["out"].encode())
-        if (done.returncode, done.stdout) != wanted:
-            print(f"{name}: {done.returncode} {done.stdout[:200]!r} for {wanted[0]} {wanted[1][:200]!r}")
+        got = (done.returncode, done.stdout, done.stderr)
+        if got != wanted_of(row):
+            print(f"{name}: {got} for {wanted_of(row)}")
             failed += 1
     print(f"rows: {len(SERVED) - failed} of {len(SERVED)} pass")
     return 1 if failed else 0

@@ -1,132 +1,27 @@
 #!/usr/bin/env python3
-"""Runs random jobs on a built `usbrun` and compares each answer and status with a model of its own.
+"""Runs random jobs on a built `usbrun` and compares its status, its answers and what it tells with models of its own.
 
-The model does what docs/MODEL.md and docs/FORMATS.md say, and uses no code of the crates. Its authors are theirs, so
-what both read wrongly stays unseen.
+The models do what docs/MODEL.md and docs/FORMATS.md say, and use no code of the crates. Their authors are those of the
+crates, so what both read wrongly stays unseen.
 
     random_jobs.py PROGRAM [JOBS [SEED]]
 
-Half of the jobs have some bytes changed, so that most of these are no jobs. The status is 1 where an answer
-differs; the first job that does is printed.
+Half of the jobs have some bytes changed, so that most of these are refused. The status is 1 where a run differs; the
+first job that does is printed.
 """
 import random
 import re
 import subprocess
 import sys
 
-PACKET = 64
-MOST_UNSERVED = 3
-GET_DEVICE_DESCRIPTOR = bytes([0x80, 6, 0, 1])
+from descriptor_model import fault_of
+from device_model import PACKET, Device
+
+MOST_LINE = 8400
 
 
-class Device:
-    """A device as a host and its own software see it: endpoint 0 and the request for the device descriptor."""
-
-    def __init__(self, descriptor):
-        self.descriptor = descriptor
-        self.awake = self.was_reset = False
-        self.clear()
-
-    def clear(self):
-        self.setups = []
-        self.side, self.packet, self.is_last = "off", b"", False
-        self.taken = False
-        self.sent_note = False
-        self.setup_note = None
-        self.to_come = []
-        self.toggle = 1
-
-    def answer(self, line):
-        kind, *fields = line
-        return getattr(self, kind)(*fields)
-
-    def reset(self):
-        self.awake, self.was_reset = False, True
-        return "ok"
-
-    def irq(self):
-        if self.was_reset:
-            self.clear()
-            self.awake, self.was_reset = True, False
-            return "ok"
-        if self.side in ("sent", "came"):
-            self.sent_note = self.side == "sent"
-            self.side = "off"
-        if self.setups:
-            self.setup_note, self.setups, self.side = self.setups[-1], [], "off"
-        elif self.side == "wait":
-            self.side = "last" if self.is_last else "loaded"
-        return "ok"
-
-    def task(self):
-        if self.sent_note and self.to_come:
-            self.give_next()
-        self.sent_note = False
-        if self.setup_note is not None:
-            self.to_come = []
-            self.start(self.setup_note)
-            self.setup_note = None
-        return "ok"
-
-    def start(self, setup):
-        length = int.from_bytes(setup[6:], "little")
-        if setup[:4] != GET_DEVICE_DESCRIPTOR:
-            self.side = "stall"
-        elif length == 0:
-            self.side, self.packet, self.is_last = "wait", b"", False
-        else:
-            data = self.descriptor[:length]
-            self.to_come = [data[at : at + PACKET] for at in range(0, len(data), PACKET)]
-            if len(data) < length and len(data) % PACKET == 0:
-                self.to_come.append(b"")
-            self.give_next()
-
-    def give_next(self):
-        self.packet = self.to_come.pop(0)
-        self.side, self.is_last = "wait", not self.to_come
-
-    def setup(self, address, setup, good):
-        if not self.awake or not good or address != 0 or len(self.setups) == MOST_UNSERVED:
-            return "none"
-        self.setups.append(setup)
-        self.taken, self.toggle = False, 1
-        if self.side in ("loaded", "last", "armed", "stall"):
-            self.side = "off"
-        return "ack"
-
-    def out(self, address, endpoint, toggle, _data, good):
-        if not self.awake or not good or (address, endpoint) != (0, 0):
-            return "none"
-        if self.setups:
-            return "nak"
-        if self.side == "stall":
-            return "stall"
-        if self.taken:
-            return "ack" if toggle == 1 else "nak"
-        if self.side not in ("armed", "last"):
-            return "nak"
-        if toggle == 1:
-            self.taken, self.side = True, "came"
-        return "ack"
-
-    def in_(self, address, endpoint, acknowledged):
-        if not self.awake or (address, endpoint) != (0, 0):
-            return "none"
-        if self.setups:
-            return "nak"
-        if self.side == "stall":
-            return "stall"
-        if self.side not in ("loaded", "last"):
-            return "nak"
-        answer = f"data{self.toggle} {self.packet.hex() or '-'}"
-        if acknowledged:
-            self.toggle ^= 1
-            self.side = "armed" if self.side == "last" else "sent"
-        return answer
-
-
-def number(word, most):
-    return int(word) if re.fullmatch(rb"0|[1-9][0-9]*", word) and int(word) <= most else None
+def number(word, least, most):
+    return int(word) if re.fullmatch(rb"0|[1-9][0-9]*", word) and least <= int(word) <= most else None
 
 
 def data(word, least, most):
@@ -140,95 +35,251 @@ def choice(word, yes, no):
     return {yes: True, no: False}.get(word)
 
 
-# the fields of each line of a schedule
-FIELDS = {
+# what the words after a line's name are: a number or a HEX with its bounds, or a choice of two
+ADDRESS, ENDPOINT, FATE = (5, number, 0, 127), (5, number, 0, 15), (7, choice, b"ok", b"bad")
+SCHEDULE = {
     b"reset": [],
     b"irq": [],
     b"task": [],
-    b"setup": [lambda w: number(w, 127), lambda w: data(w, 8, 8), lambda w: choice(w, b"ok", b"bad")],
-    b"out": [
-        lambda w: number(w, 127),
-        lambda w: number(w, 15),
-        lambda w: number(w, 1),
-        lambda w: data(w, 0, PACKET),
-        lambda w: choice(w, b"ok", b"bad"),
-    ],
-    b"in": [lambda w: number(w, 127), lambda w: number(w, 15), lambda w: choice(w, b"ok", b"noack")],
+    b"state": [],
+    b"end": [],
+    b"setup": [ADDRESS, (6, data, 8, 8), FATE],
+    b"out": [ADDRESS, ENDPOINT, (5, number, 0, 1), (6, data, 0, PACKET), FATE],
+    b"in": [ADDRESS, ENDPOINT, (7, choice, b"ok", b"noack")],
+}
+HEAD = {
+    b"device": [(6, data, 1, 64)],
+    b"config": [(6, data, 1, 600)],
+    b"string": [(5, number, 1, 255), (6, data, 2, 60)],
+    b"report": [(6, data, 1, 512)],
+    b"begin": [],
 }
 
 
-def read_line(line):
-    name, *words = line.split(b" ")
-    fields = FIELDS.get(name)
-    if fields is None or len(fields) != len(words):
-        return None
-    values = [read(word) for read, word in zip(fields, words)]
-    return None if None in values else ("in_" if name == b"in" else name.decode(), *values)
+def read_line(line, table):
+    """The name and the fields of a line, or the lowest rule that it breaks."""
+    if len(line) > MOST_LINE:
+        return 1
+    if any(not 0x20 <= b <= 0x7E for b in line):
+        return 2
+    words = line.split(b" ")
+    name = next((word for word in words if word), b"")
+    if name not in table:
+        return 3
+    fields = table[name]
+    if len(words) != len(fields) + 1 or b"" in words:
+        return 4
+    values = [(rule, read(word, *bounds)) for (rule, read, *bounds), word in zip(fields, words[1:])]
+    broken = [rule for rule, value in values if value is None]
+    return min(broken) if broken else ("in_" if name == b"in" else name.decode(), *(value for _, value in values))
 
 
-def read_descriptor(lines):
-    """The device descriptor of a good head, or None."""
-    if len(lines) < 4 or lines[2] != b"begin" or lines[0][:7] != b"device " or lines[1][:7] != b"config ":
-        return None
-    descriptor = data(lines[0][7:], 1, 64)
-    if descriptor is None or data(lines[1][7:], 1, 600) is None:
-        return None
-    good = len(descriptor) == 18 and descriptor[:2] == b"\x12\x01" and descriptor[7] == 64 and descriptor[17] > 0
-    return descriptor if good else None
+class Head:
+    """The lines of a head so far."""
+
+    def __init__(self):
+        self.device = self.config = self.report = None
+        self.strings = {}
+
+    def add(self, name, *fields):
+        """Whether the line has its place."""
+        if name == "device":
+            good, self.device = self.device is None and self.config is None, fields[0]
+        elif name == "config":
+            good, self.config = self.device is not None and self.config is None, fields[0]
+        elif name == "string":
+            index, body = fields
+            good = self.config is not None and self.report is None and len(self.strings) < 8
+            good = good and index > max(self.strings, default=0)
+            self.strings[index] = body
+        elif name == "report":
+            good, self.report = self.config is not None and self.report is None, fields[0]
+        else:
+            good = self.config is not None
+        return good
+
+
+def bad_line(at, rule, text=""):
+    return 2, text.encode(), f"usbrun: line {at} rule {rule}\n".encode()
+
+
+def short(lines, text=""):
+    return 9, text.encode(), f"usbrun: job ends at line {lines}\n".encode()
 
 
 def expected(job):
-    """The status and the text of a job's bytes."""
+    """The status, the answers and the line of the status of a job's bytes."""
     lines = job.split(b"\n")
-    descriptor = read_descriptor(lines)
-    if descriptor is None:
-        return 2, b""
-    device, text = Device(descriptor), ""
-    for at, line in enumerate(lines[3:], 3):
-        if line == b"end":
-            return 0, text.encode()
-        read = read_line(line)
-        # the last piece has no newline, and only `end` may stand there
-        if read is None or at == len(lines) - 1:
-            return 2, text.encode()
+    if lines[-1] == b"":
+        lines.pop()
+    head, at = Head(), 0
+    for at, line in enumerate(lines, 1):
+        read = read_line(line, HEAD)
+        if isinstance(read, int):
+            return bad_line(at, read)
+        if not head.add(*read):
+            return bad_line(at, 8)
+        if read[0] == "begin":
+            break
+    else:
+        return short(len(lines))
+    fault = fault_of(head.device, head.config, head.report)
+    if fault is not None:
+        return 3, b"", "usbrun: set rule {} at {}\n".format(*fault).encode()
+    return run(Device(head.device, head.config, head.strings), lines, at)
+
+
+def run(device, lines, start):
+    text = ""
+    for at, line in enumerate(lines[start:], start + 1):
+        read = read_line(line, SCHEDULE)
+        if isinstance(read, int):
+            return bad_line(at, read, text)
+        if read[0] == "end":
+            return 0, text.encode(), b""
         text += device.answer(read) + "\n"
-    return 2, text.encode()
+    return short(len(lines), text)
 
 
-def random_setup(rng):
+def random_interface(rng, number_, free):
+    """An interface with some of the free endpoints."""
+    codes = rng.choice([b"\xff\x00\x00", b"\xff\x00\x00", b"\x08\x06\x50", b"\x01\x03\x00", b"\x03\x01\x01", b"\x0a\x00\x00"])
+    ends = b""
+    wanted = 2 if codes[0] in (1, 8, 10) and rng.random() < 0.8 else rng.choice([0, 1, 2])
+    chosen = [free.pop(rng.randrange(len(free))) for _ in range(min(wanted, len(free)))]
+    if codes[0] in (1, 8, 10) and len(chosen) == 2:
+        chosen[1] = chosen[0] ^ 128
+    for address in chosen:
+        bulk = codes[0] in (1, 8, 10) or rng.random() < 0.5
+        size = 64 if bulk else rng.choice([1, 8, 16, 64])
+        ends += bytes([7, 5, address, 2 if bulk else 3, size, 0, rng.randrange(256)])
+    count = len(chosen) if rng.random() < 0.98 else rng.randrange(4)
+    extra = bytes([rng.choice([2, 3, 5]), 0x24]).ljust(5, b"\0") if rng.random() < 0.2 else b""
+    extra = extra[: extra[0]] if extra else b""
+    other = bytes([9, 4, number_, 1, 1, 255, 0, 0, 0, 7, 5, 0x81, 3, 8, 0, 1]) if rng.random() < 0.15 else b""
+    return bytes([9, 4, number_, 0, count]) + codes + b"\0" + extra + ends + other
+
+
+def serial_port(number_):
+    """Two interfaces of a serial port (CDC PSTN 1.2)."""
+    control = bytes([9, 4, number_, 0, 1, 2, 2, 0, 0, 5, 0x24, 6, number_, number_ + 1, 7, 5, 0x83, 3, 8, 0, 16])
+    return control + bytes([9, 4, number_ + 1, 0, 2, 10, 0, 0, 0, 7, 5, 3, 2, 64, 0, 0, 7, 5, 0x82, 2, 64, 0, 0])
+
+
+def random_config(rng):
+    body, count, free = b"", 0, [1, 2, 0x81]
     if rng.random() < 0.2:
+        body, count = serial_port(0), 2
+    for _ in range(rng.choice([0, 1, 1, 2, 3])):
+        body += random_interface(rng, count, free)
+        count += 1
+    pad = rng.choice([0, 0, 0, 64 - 9 - len(body), 128 - 9 - len(body), rng.randrange(200)])
+    while pad >= 2:
+        size = min(pad, 255)
+        size -= 1 if pad - size == 1 else 0
+        body += bytes([size, 0x41]).ljust(size, b"\x55")
+        pad -= size
+    total = 9 + len(body)
+    config = bytearray(bytes([9, 2]) + total.to_bytes(2, "little") + bytes([count, rng.choice([1, 1, 2, 255]), 0]))
+    config += bytes([rng.choice([0x80, 0xC0]), 50]) + body
+    if rng.random() < 0.25:
+        config[rng.randrange(len(config))] = rng.choice([0, 1, 2, 3, 4, 5, 7, 9, 11, 64, 0x81, 255])
+    return bytes(config)
+
+
+def random_setup(rng, config):
+    value = config[5] if len(config) > 5 else 1
+    if rng.random() < 0.1:
         return bytes(rng.choice([0, 1, 2, 5, 6, 9, 128, 129]) for _ in range(8))
-    length = rng.choice([0, 1, 8, 17, 18, 18, 19, 64, 64, 255, 65535])
-    return GET_DEVICE_DESCRIPTOR + bytes(2) + length.to_bytes(2, "little")
+    kind, request, values = rng.choice(
+        [
+            (0x80, 6, [0x100, 0x200, 0x200, 0x300, 0x301, 0x302, 0x201, 0x2200]),
+            (0x80, 6, [0x100, 0x200, 0x300, 0x301]),
+            (0x00, 9, [value, value, value, 0, value + 1]),
+            (0x00, 5, [1, 2, 127, 128, 0]),
+            (0x80, 8, [0]),
+            (0x80, 0, [0]),
+            (0x81, 0, [0]),
+            (0x82, 0, [0]),
+            (0x02, 1, [0, 0, 1]),
+            (0x02, 3, [0, 0, 0, 1]),
+            (0x81, 10, [0]),
+            (0x01, 11, [0, 0, 1]),
+            (0x81, 6, [0x2100, 0x2200]),
+            (0x21, 0x22, [3]),
+            (0xA1, 0x21, [0]),
+        ]
+    )
+    index = rng.choice([0, 0, 1, 2, 3, 0x80, 0x81, 0x82, 0x83, 0x101])
+    length = rng.choice([0, 1, 2, 8, 18, 19, 63, 64, 64, 65, 128, 255, 512, 65535])
+    value = rng.choice(values)
+    return bytes([kind, request]) + b"".join(n.to_bytes(2, "little") for n in (value, index, length))
 
 
-def random_line(rng, weights):
-    kind = rng.choices(["reset", "irq", "task", "setup", "out", "in"], weights)[0]
-    address = 0 if rng.random() < 0.97 else rng.randrange(128)
-    endpoint = 0 if rng.random() < 0.97 else rng.randrange(16)
-    fate = "ok" if rng.random() < 0.85 else ("noack" if kind == "in" else "bad")
-    if kind == "setup":
-        return f"setup {address} {random_setup(rng).hex()} {fate}"
-    if kind == "out":
-        body = rng.randbytes(rng.choice([0, 0, 0, 1, 8, PACKET])).hex() or "-"
-        return f"out {address} {endpoint} {rng.choice([0, 1, 1, 1])} {body} {fate}"
-    return f"in {address} {endpoint} {fate}" if kind == "in" else kind
+class Lines:
+    """Random lines of a schedule, most of them at the address that the device may have."""
+
+    def __init__(self, rng, config):
+        self.rng, self.config = rng, config
+        self.weights = [rng.random() * most for most in (0.1, 1.5, 1.5, 1, 1, 1.5, 0.5)]
+        self.address = 0
+
+    def next(self):
+        rng = self.rng
+        kind = rng.choices(["reset", "irq", "task", "setup", "out", "in", "state"], self.weights)[0]
+        address = self.address if rng.random() < 0.95 else rng.choice([0, 1, 2, rng.randrange(128)])
+        endpoint = 0 if rng.random() < 0.85 else rng.randrange(5)
+        fate = "ok" if rng.random() < 0.85 else ("noack" if kind == "in" else "bad")
+        if kind == "setup":
+            setup = random_setup(rng, self.config)
+            if setup[:2] == b"\x00\x05" and setup[2] < 128 and rng.random() < 0.7:
+                self.address = setup[2]
+            return f"setup {address} {setup.hex()} {fate}"
+        if kind == "out":
+            body = rng.randbytes(rng.choice([0, 0, 0, 1, 8, 16, PACKET])).hex() or "-"
+            return f"out {address} {endpoint} {rng.choice([0, 1, 1, 1])} {body} {fate}"
+        if kind == "reset":
+            self.address = 0
+        return f"in {address} {endpoint} {fate}" if kind == "in" else kind
+
+    def control(self, setup):
+        """A whole request, with its stages, as a host and the device's software take turns."""
+        address = self.address
+        lines = [f"setup {address} {setup.hex()} ok", "irq", "task", "irq"]
+        lines += [f"in {address} 0 ok", "irq", "task", "irq"] * self.rng.choice([1, 1, 2, 4])
+        lines += [f"out {address} 0 1 - ok", "irq", "task"]
+        if setup[:2] == b"\x00\x05" and setup[2] < 128 and setup[3] == 0:
+            self.address = setup[2]
+        return lines
 
 
 def random_job(rng):
-    weights = [rng.random() * most for most in (0.15, 1.5, 1.5, 1, 1, 1.5)]
-    descriptor = b"\x12\x01" + rng.randbytes(5) + b"\x40" + rng.randbytes(9) + b"\x01"
-    lines = [f"device {descriptor.hex()}", "config 0902", "begin", "reset", "irq"]
-    lines += [random_line(rng, weights) for _ in range(rng.choice([3, 20, 60, 600]))]
-    return "\n".join(lines + ["end", ""]).encode()
+    device = b"\x12\x01" + rng.randbytes(5) + b"\x40" + rng.randbytes(9) + bytes([rng.choice([1, 1, 1, 2])])
+    config = random_config(rng)
+    head = [f"device {device.hex()}", f"config {config.hex()}"]
+    for index in sorted(rng.sample(range(1, 6), rng.choice([0, 0, 1, 2]))):
+        head.append(f"string {index} {rng.randbytes(rng.choice([2, 12, 60])).hex()}")
+    if rng.random() < 0.03:
+        head.append("report 0600")
+    source, lines = Lines(rng, config), []
+    for _ in range(rng.choice([3, 20, 60, 300])):
+        whole = rng.random() < 0.15
+        lines += source.control(random_setup(rng, config)) if whole else [source.next()]
+    last = rng.choice([["end", ""], ["end", ""], ["end"], [""], []])
+    return "\n".join(head + ["begin", "reset", "irq"] + lines + last).encode()
 
 
 def changed(rng, job):
     job = bytearray(job)
     for _ in range(rng.choice([1, 1, 2, 3])):
-        at = rng.randrange(len(job))
+        at = rng.randrange(len(job)) if rng.random() < 0.5 else rng.randrange(min(len(job), 300))
         new = bytes([rng.choice(b" \n\r\t019-afAFz\x00\xff")])
         job[at : at + rng.choice([0, 1, 1, 5])] = rng.choice([b"", new, new])
+    if rng.random() < 0.1:
+        lines = bytes(job).split(b"\n")
+        a, b = rng.randrange(min(len(lines), 6)), rng.randrange(min(len(lines), 6))
+        lines[a], lines[b] = lines[b], lines[a]
+        return b"\n".join(lines)
     return bytes(job)
 
 
@@ -236,14 +287,18 @@ def main():
     program = sys.argv[1]
     jobs = int(sys.argv[2]) if len(sys.argv) > 2 else 400
     rng = random.Random(int(sys.argv[3]) if len(sys.argv) > 3 else 1)
+    statuses = {}
     for count in range(jobs):
         job = random_job(rng) if count % 2 else changed(rng, random_job(rng))
-        run = subprocess.run([program, "device"], input=job, capture_output=True, check=False)
-        if (run.returncode, run.stdout) != expected(job):
+        done = subprocess.run([program, "device"], input=job, capture_output=True, check=False)
+        got = (done.returncode, done.stdout, done.stderr)
+        if got != expected(job):
             sys.stdout.buffer.write(job)
-            print(f"job {count} differs: status {run.returncode}")
+            print(f"job {count} differs: {got[0]} {got[2]!r}, and not {expected(job)[0]} {expected(job)[2]!r}")
             return 1
-    print(f"random jobs: {jobs} of {jobs} agree")
+        statuses[done.returncode] = statuses.get(done.returncode, 0) + 1
+    told = ", ".join(f"{count} with status {status}" for status, count in sorted(statuses.items()))
+    print(f"random jobs: {jobs} of {jobs} agree ({told})")
     return 0
 
 
