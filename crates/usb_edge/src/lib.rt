@@ -8,7 +8,7 @@ mod stream;
 
 pub use disks::{Disks, FileDisks};
 pub use memory::{MemSink, MemSource};
-pub use real::{StderrSink, StdinSource, StdoutSink};
+pub use real::{NoSink, StderrSink, StdinSource, StdoutSink};
 pub use stream::{Got, Sink, Source, Wrote};
 
 #[cfg(test)]

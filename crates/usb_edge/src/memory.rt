@@ -64,6 +64,8 @@ impl Source for MemSource {
         ensures end { result ≡ Got.End → (self.old.left ≡ []) × (self.new.left ≡ self.old.left) }
         ensures failed { (result ≡ Got.Failed) ↔ Contains self.old.fails (counted self.old.calls) }
         ensures unchanged { result ≡ Got.Failed → self.new.left ≡ self.old.left }
+        ensures piece { IfGot result (λ n. n ≤ self.old.piece) }
+        ensures same { self.new.piece ≡ self.old.piece }
         ensures calls { self.new.calls ≡ counted self.old.calls }
         ensures fails { self.new.fails ≡ self.old.fails }
         ensures rose { result ≡ Got.Failed → self.new.faults ≡ counted self.old.faults }

@@ -1,4 +1,4 @@
-use crate::{Got, MemSink, MemSource, Sink, Source, StderrSink, StdoutSink, Wrote};
+use crate::{Got, MemSink, MemSource, NoSink, Sink, Source, StderrSink, StdoutSink, Wrote};
 use std::test::Fail;
 
 /// What is left, in pieces of two bytes, where the third call fails.
@@ -47,4 +47,12 @@ fn real_sinks(rt: HostRuntime) {
         write_once(&mut StderrSink::new(rt.stderr()), b"ok\n"),
         Wrote::Bytes(3)
     );
+}
+
+/// What is dropped is taken whole.
+#[test]
+fn nothing_kept(rt: HostRuntime) {
+    let mut sink = NoSink::new();
+    assert_eq!(rt; write_once(&mut sink, &[1, 2, 3]), Wrote::Bytes(3));
+    assert_eq!(rt; write_once(&mut sink, &[4, 5, 6]), Wrote::Bytes(3));
 }
