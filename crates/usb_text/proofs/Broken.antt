@@ -9,6 +9,8 @@ use Rattle.std.proofs.lemmas.Bool.Decides.{nat_tests}
 use Rattle.usb_packet.specs.declared.bus.Toggle.{Toggle}
 use Rattle.usb_packet.specs.declared.bus.Toggle.TheVariants.{D0, D1}
 use Rattle.usb_packet.specs.declared.bus.BusEvent.TheVariants as event
+use Rattle.usb_words.specs.Field.{pieces, is_numeral, read_on, number_of, digit_value, pair_value, bytes_of_pairs, with_byte, bytes_in, exactly, fate_of}
+use Rattle.usb_words.proofs.Decimal.{and_true, number_only}
 use Rattle.usb_text.specs.declared.line.DevLine.TheVariants.{Bus, Irq, Task, Call}
 use Rattle.usb_text.specs.declared.call.DevCall.TheVariants as call
 use Rattle.usb_text.specs.Scheduled.{Scheduled}
@@ -23,7 +25,6 @@ use Rattle.usb_text.specs.declared.rules.Field.{Field}
 use Rattle.usb_text.specs.declared.rules.Field.TheVariants.{Bytes}
 use Rattle.usb_text.specs.declared.rules.Mode.TheVariants as mode
 use Rattle.usb_text.specs.declared.rules.Place.TheVariants as place
-use Rattle.usb_text.specs.Field.{pieces, is_numeral, read_on, number_of, digit_value, pair_value, bytes_of_pairs, with_byte, bytes_in, exactly, fate_of}
 use Rattle.usb_text.specs.Line.{bad, noack, schedule_text_of, IsScheduled}
 use Rattle.usb_text.specs.Reading.{kind_of, three, five, toggle_of, setup_words, out_words, in_words, alone, fields_line, words_line, line_of}
 use Rattle.usb_text.specs.Head.{head_text, IsHead, head_kind_of, one, two, bytes_word, text_words, head_fields, head_words_line, head_of}
@@ -31,7 +32,6 @@ use Rattle.usb_text.specs.Rules.{rule_1, rule_2, has_words, after_name, first_of
 use Rattle.usb_text.proofs.Judged.{lowest_in}
 use Rattle.usb_text.proofs.Read.{line_only}
 use Rattle.usb_text.proofs.Heads.{head_only}
-use Rattle.usb_text.proofs.Decimal.{and_true, number_only}
 
 -- one of two tests chose a value
 either_some : {A : Type 0} (a b : Bool) (x y : A) → (a || b) ≡ true → (z : A) × (cond a (Some x) (cond b (Some y) None) ≡ Some z)

@@ -1,9 +1,3 @@
-pub mod Pieces
-pub mod Numbers
-pub mod Pairs
-pub mod Hex
-pub mod Decimal
-pub mod Spaced
 pub mod Printed
 pub mod Read
 pub mod Heads
@@ -15,3 +9,4 @@ pub mod Kept
 pub mod Broken
 pub mod Lines
 pub mod Replies
+pub mod Accesses

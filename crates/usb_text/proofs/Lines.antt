@@ -1,6 +1,7 @@
 -- The lines of each mode and place are read exactly where their texts stand.
 use Rattle.std.proofs.Common.{◌≡◌, ℕ, List, [], ◌∷◌, true, Option, Some, None, length, ◌≤◌, refl, ap, sym, ◌∙◌, arith, codes, subst}
 use Rattle.std.specs.Fmt.{decimal}
+use Rattle.usb_words.specs.Field.{pieces, hex}
 use Rattle.usb_text.specs.declared.rules.Mode.{Mode}
 use Rattle.usb_text.specs.declared.rules.Mode.TheVariants as mode
 use Rattle.usb_text.specs.declared.rules.Place.{Place}
@@ -12,7 +13,6 @@ use Rattle.usb_text.specs.Scheduled.{Scheduled}
 use Rattle.usb_text.specs.Scheduled as schedule
 use Rattle.usb_text.specs.declared.line.Line.{Line}
 use Rattle.usb_text.specs.declared.line.Line.TheVariants.{Head, Device, End}
-use Rattle.usb_text.specs.Field.{pieces, hex}
 use Rattle.usb_text.specs.Head.{head_text, IsHead, head_of}
 use Rattle.usb_text.specs.Line.{line_text, IsInRange, IsLine, schedule_text_of, IsScheduled}
 use Rattle.usb_text.specs.Reading.{line_of}

@@ -6,16 +6,16 @@ use Rattle.std.proofs.lemmas.Bool.Decides.{nat_tests}
 use Rattle.usb_packet.specs.declared.bus.Toggle.{Toggle}
 use Rattle.usb_packet.specs.declared.bus.Toggle.TheVariants.{D0, D1}
 use Rattle.usb_packet.specs.declared.bus.BusEvent.TheVariants as event
+use Rattle.usb_words.specs.Field.{spaced, hex, exactly, fate_of}
+use Rattle.usb_words.proofs.Hex.{is_word, hex_again, hex_is_word}
+use Rattle.usb_words.proofs.Decimal.{and_true, number_again, decimal_is_word}
+use Rattle.usb_words.proofs.Spaced.{pieces-spaced}
 use Rattle.usb_text.specs.declared.line.DevLine.TheVariants.{Bus, Irq, Task, Call}
 use Rattle.usb_text.specs.declared.call.DevCall.TheVariants as call
 use Rattle.usb_text.specs.Scheduled.{Scheduled}
 use Rattle.usb_text.specs.Scheduled.{Device, End}
-use Rattle.usb_text.specs.Field.{spaced, hex, exactly, fate_of}
 use Rattle.usb_text.specs.Line.{fate_text, bad, noack, toggle_text, schedule_words_of, schedule_text_of, IsScheduled}
 use Rattle.usb_text.specs.Reading.{toggle_of, words_line, line_of}
-use Rattle.usb_text.proofs.Hex.{is_word, hex_again, hex_is_word}
-use Rattle.usb_text.proofs.Decimal.{and_true, number_again, decimal_is_word}
-use Rattle.usb_text.proofs.Spaced.{pieces-spaced}
 
 fate_is_word : (other : List ℕ) (ok : Bool) → is_word other ≡ true → is_word (fate_text other ok) ≡ true
 fate_is_word other true h = refl

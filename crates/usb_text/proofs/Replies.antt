@@ -10,13 +10,13 @@ use Rattle.usb_pipe.specs.declared.reply.Reply.{Reply}
 use Rattle.usb_pipe.specs.declared.reply.Reply.TheVariants as reply
 use Rattle.usb_pipe.specs.declared.reply.HostWord.{HostWord}
 use Rattle.usb_pipe.specs.declared.reply.HostWord.TheVariants as host
+use Rattle.usb_words.proofs.Hex.{is_word, hex_is_word}
+use Rattle.usb_words.proofs.Decimal.{decimal_is_word}
 use Rattle.usb_text.specs.declared.line.Answer.{Answer}
 use Rattle.usb_text.specs.declared.line.Answer.TheVariants as answer
 use Rattle.usb_text.specs.Reply.{Fits, data_name, bus_words, host_words, reply_words, IsBusAnswer, IsHostWord, IsReply}
 use Rattle.usb_text.specs.Line.{answer_words, answer_text, IsAnswer}
 use Rattle.usb_text.specs.Plain.{is_plain}
-use Rattle.usb_text.proofs.Hex.{is_word, hex_is_word}
-use Rattle.usb_text.proofs.Decimal.{decimal_is_word}
 use Rattle.usb_text.proofs.Plain.{spaced_is_plain}
 
 number_is_word : (n : ℕ) → Fits n → is_word (decimal n) ≡ true

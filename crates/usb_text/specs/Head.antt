@@ -2,11 +2,11 @@
 use Rattle.std.specs.Prelude.{ℕ, ◌≤◌, List, [], ◌∷◌, codes, if◌then◌else◌, nat_le, Option, Some, None, ⊤}
 use Rattle.std.specs.Str.{bytes_eq}
 use Rattle.std.specs.Fmt.{decimal}
+use Rattle.usb_words.specs.Field.{HasBytes, pieces, spaced, none_left, hex, number_of, bytes_in, at_least}
 use Rattle.usb_text.specs.declared.head.HeadLine.{HeadLine}
 use Rattle.usb_text.specs.declared.head.HeadLine.TheVariants.{Device, Config, Text, Report, Begin}
 use Rattle.usb_text.specs.declared.head.HeadKind.{HeadKind}
 use Rattle.usb_text.specs.declared.head.HeadKind.TheVariants as kind
-use Rattle.usb_text.specs.Field.{HasBytes, pieces, spaced, none_left, hex, number_of, bytes_in, at_least}
 
 -- `device HEX`, `config HEX`, `string I HEX`, `report HEX`, `begin`
 abbrev pub head_words : HeadLine → List (List ℕ)

@@ -1,5 +1,3 @@
-pub mod Field
-pub mod Words
 pub mod Call
 pub mod Head
 pub mod Reply
@@ -9,3 +7,4 @@ pub mod Reading
 pub mod Plain
 pub mod Rules
 pub mod Lines
+pub mod Access

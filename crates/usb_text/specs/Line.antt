@@ -5,6 +5,7 @@ use Rattle.usb_packet.specs.declared.bus.Toggle.{Toggle}
 use Rattle.usb_packet.specs.declared.bus.Toggle.TheVariants.{D0, D1}
 use Rattle.usb_packet.specs.declared.bus.BusEvent.{BusEvent}
 use Rattle.usb_packet.specs.declared.bus.BusEvent.TheVariants as event
+use Rattle.usb_words.specs.Field.{AreBytes, spaced, hex}
 use Rattle.usb_text.specs.declared.line.DevLine.{DevLine}
 use Rattle.usb_text.specs.declared.line.DevLine.TheVariants.{Bus, Irq, Task, Call}
 use Rattle.usb_text.specs.Scheduled.{Scheduled}
@@ -13,7 +14,6 @@ use Rattle.usb_text.specs.declared.line.Line.{Line}
 use Rattle.usb_text.specs.declared.line.Line.TheVariants.{Head, Device, End}
 use Rattle.usb_text.specs.declared.line.Answer.{Answer}
 use Rattle.usb_text.specs.declared.line.Answer.TheVariants as answer
-use Rattle.usb_text.specs.Field.{AreBytes, spaced, hex}
 use Rattle.usb_text.specs.Call.{call_words, IsCall, IsServed}
 use Rattle.usb_text.specs.Head.{head_words, IsHead}
 use Rattle.usb_text.specs.Reply.{bus_words, reply_words, IsBusAnswer, IsReply}

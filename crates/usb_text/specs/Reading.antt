@@ -4,13 +4,13 @@ use Rattle.std.specs.Str.{bytes_eq}
 use Rattle.usb_packet.specs.declared.bus.Toggle.{Toggle}
 use Rattle.usb_packet.specs.declared.bus.Toggle.TheVariants.{D0, D1}
 use Rattle.usb_packet.specs.declared.bus.BusEvent.TheVariants as event
+use Rattle.usb_words.specs.Field.{pieces, none_left, number_of, bytes_in, exactly, fate_of}
 use Rattle.usb_text.specs.declared.line.DevLine.TheVariants.{Bus, Irq, Task, Call}
 use Rattle.usb_text.specs.declared.call.DevCall.TheVariants as call
 use Rattle.usb_text.specs.Scheduled.{Scheduled}
 use Rattle.usb_text.specs.Scheduled.{Device, End}
 use Rattle.usb_text.specs.declared.line.Kind.{Kind}
 use Rattle.usb_text.specs.declared.line.Kind.TheVariants as kind
-use Rattle.usb_text.specs.Field.{pieces, none_left, number_of, bytes_in, exactly, fate_of}
 use Rattle.usb_text.specs.Line.{most_address, most_endpoint, bad, noack}
 
 -- the kind of line that a first word names

@@ -9,7 +9,7 @@ use Rattle.usb_pipe.specs.declared.reply.Reply.{Reply}
 use Rattle.usb_pipe.specs.declared.reply.Reply.TheVariants as reply
 use Rattle.usb_pipe.specs.declared.reply.HostWord.{HostWord}
 use Rattle.usb_pipe.specs.declared.reply.HostWord.TheVariants as host
-use Rattle.usb_text.specs.Field.{AreBytes, hex}
+use Rattle.usb_words.specs.Field.{AreBytes, hex}
 
 abbrev pub data_name : Toggle → List ℕ
 data_name D0 = codes "data0"

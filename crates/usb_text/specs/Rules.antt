@@ -2,6 +2,7 @@
 use Rattle.std.specs.Prelude.{ℕ, ◌+◌, ◌/◌, ◌%◌, List, [], ◌∷◌, Bool, true, false, ◌==◌, ◌&&◌, ◌||◌, not, nat_le, length, drop, if◌then◌else◌, Option, Some, None, codes, is_some}
 use Rattle.std.specs.Str.{bytes_eq}
 use Rattle.std.specs.List.{list_all}
+use Rattle.usb_words.specs.Field.{pieces, is_numeral, read_on}
 use Rattle.usb_text.specs.declared.rules.Mode.{Mode}
 use Rattle.usb_text.specs.declared.rules.Mode.TheVariants as mode
 use Rattle.usb_text.specs.declared.rules.Place.{Place}
@@ -13,7 +14,6 @@ use Rattle.usb_text.specs.declared.line.Kind.{Kind}
 use Rattle.usb_text.specs.declared.line.Kind.TheVariants as kind
 use Rattle.usb_text.specs.declared.head.HeadKind.{HeadKind}
 use Rattle.usb_text.specs.declared.head.HeadKind.TheVariants as head
-use Rattle.usb_text.specs.Field.{pieces, is_numeral, read_on}
 use Rattle.usb_text.specs.Line.{bad, noack}
 use Rattle.usb_text.specs.Reading.{kind_of}
 use Rattle.usb_text.specs.Head.{head_kind_of}

@@ -1,5 +1,4 @@
 -- A line of a job after its head, and how the lines that are served are seen as such.
-use Rattle.usb_packet.specs.declared.bus.BusEvent.{BusEvent}
 use Rattle.usb_text.specs.declared.call.DevCall.TheVariants as call
 use Rattle.usb_text.specs.declared.line.DevLine.{DevLine}
 use Rattle.usb_text.specs.declared.line.DevLine.TheVariants as line

@@ -1,12 +1,11 @@
 ghost use Rattle.std.specs.Prelude.{◌≡◌, IfOk, IfErr};
 ghost use Rattle.std.specs.Option.{option_map};
+ghost use Rattle.usb_words.specs.Field.{number_of};
 ghost use Rattle.usb_text.specs.declared.head.HeadLine.{HeadLine};
 ghost use Rattle.usb_text.specs.Head.{head_text, IsHead, one, two, bytes_word, text_words, from_one, head_kind_of, head_fields, head_of};
-ghost use Rattle.usb_text.specs.Field.{number_of};
 
-use crate::field::{read_hex, small_number};
-use crate::words::Words;
 use arrayvec::ArrayVec;
+use usb_words::{Words, read_hex, small_number};
 
 /// A line of a job's head.
 #[derive(Drop)]

@@ -1,19 +1,18 @@
-//! The lines of a job and of its answers: one spelling for each value.
+//! The lines of a job, of its answers and of accesses to registers: one spelling for each value.
 #![tactic(auto)]
 
+mod access;
 mod call;
-mod field;
 mod head;
 mod laws;
 mod line;
-mod print;
 mod reading;
 mod reply;
 mod rules;
 mod show;
 mod show_call;
-mod words;
 
+pub use access::{Side, access_text, register_lines};
 pub use call::DevCall;
 pub use head::HeadLine;
 pub use laws::{one_spelling, texts_keep_rules};

@@ -1,16 +1,15 @@
 ghost use Rattle.std.specs.Prelude.{◌≡◌, codes};
 ghost use Rattle.std.specs.Option.{option_map};
-ghost use Rattle.usb_text.specs.Field.{none_left, number_of, bytes_in, exactly, fate_of};
+ghost use Rattle.usb_words.specs.Field.{none_left, number_of, bytes_in, exactly, fate_of};
 ghost use Rattle.usb_text.specs.Scheduled.{scheduled, device_line};
 ghost use Rattle.usb_text.specs.Line.{most_address, most_endpoint, bad, noack};
 ghost use Rattle.usb_text.specs.Reading.{kind_of, three, five, toggle_of, setup_words, out_words, in_words, alone, fields_line, line_of};
 
 use crate::call::DevCall;
-use crate::field::{read_hex, small_number};
 use crate::head::HeadLine;
-use crate::words::Words;
 use usb_packet::{BusAnswer, BusEvent, Packet, Toggle};
 use usb_pipe::Reply;
+use usb_words::{Words, read_hex, small_number};
 
 /// The greatest device address (USB 2.0, 8.3.2.1).
 const MOST_ADDRESS: u8 = 127;

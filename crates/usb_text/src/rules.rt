@@ -1,13 +1,12 @@
 ghost use Rattle.std.specs.Prelude.{◌≡◌, codes, drop};
 ghost use Rattle.std.specs.Option.{option_map};
 ghost use Rattle.std.specs.List.{list_all};
+ghost use Rattle.usb_words.specs.Field.{pieces};
 ghost use Rattle.usb_text.specs.Rules.{is_printable, first_of, first_word, schedule_row, head_row, row_of, has_words, begins_with_word, is_number, is_hex_digit, is_pairs, is_bytes, is_either, keeps, next_keeps, all_keep, after_name, lowest};
-ghost use Rattle.usb_text.specs.Field.{pieces};
 
-use crate::field::{is_numeral, value};
 use crate::head::{HeadKind, head_kind_of};
 use crate::line::{Kind, kind_of};
-use crate::words::Words;
+use usb_words::{Words, is_numeral, value};
 
 /// The most bytes that a line has, without the newline that ends it.
 pub const MOST_LINE: usize = 8400;

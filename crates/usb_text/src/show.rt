@@ -2,16 +2,16 @@ ghost use Rattle.std.specs.Prelude.{◌≡◌, ◌≤◌, [], ◌∷◌, length,
 ghost use Rattle.std.specs.Fmt.{decimal};
 ghost use Rattle.arrayvec.specs.ArrayVec.{array_vec_len};
 ghost use Rattle.usb_packet.specs.declared.bus.BusEvent.TheVariants as event;
-ghost use Rattle.usb_text.specs.Field.{spaced, hex};
+ghost use Rattle.usb_words.specs.Field.{spaced, hex};
 ghost use Rattle.usb_text.specs.Line.{fate_text, toggle_text, event_words, IsEvent, device_words, HasRanges, line_text, IsInRange};
 ghost use Rattle.usb_text.specs.Head.{head_text, IsHead};
 
 use crate::head::HeadLine;
 use crate::line::{DevLine, Line};
-use crate::print::{push_bytes, push_number, push_text, push_word};
 use crate::show_call::call_text;
 use arrayvec::ArrayVec;
 use usb_packet::{BusEvent, Packet, Toggle};
+use usb_words::{push_bytes, push_number, push_text, push_word};
 
 /// A text of at most a line's length.
 type Text = ArrayVec<u8, 8400>;

@@ -1,13 +1,13 @@
 ghost use Rattle.std.specs.Prelude.{◌≡◌, ◌≤◌, [], ◌∷◌, length};
 ghost use Rattle.std.specs.Fmt.{decimal};
-ghost use Rattle.usb_text.specs.Field.{spaced, hex};
+ghost use Rattle.usb_words.specs.Field.{spaced, hex};
 ghost use Rattle.usb_text.specs.Call.{cdc_words, hid_words, msc_words, midi_words, IsCdcCall, IsHidCall, IsMidiCall, call_text, IsCall};
 
 use crate::call::DevCall;
-use crate::print::{push_bytes, push_number, push_word};
 use crate::show::text_of;
 use arrayvec::ArrayVec;
 use usb_pipe::{CdcDeviceCall, HidDeviceCall, MidiCall, MscDeviceCall};
+use usb_words::{push_bytes, push_number, push_word};
 
 /// The text of a call's line, without the newline that ends it.
 pub fn call_text(call: &DevCall) -> ArrayVec<u8, 8400>

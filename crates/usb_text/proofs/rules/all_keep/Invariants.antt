@@ -1,5 +1,5 @@
 use Rattle.std.proofs.Common.{◌≡◌, ◌&&◌, drop}
-use Rattle.usb_text.specs.Field.{pieces}
+use Rattle.usb_words.specs.Field.{pieces}
 use Rattle.usb_text.specs.Rules.{all_keep, after_name}
 use Rattle.usb_text.proofs.rules.all_keep.Given as goal
 

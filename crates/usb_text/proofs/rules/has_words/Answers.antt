@@ -1,5 +1,5 @@
 use Rattle.std.proofs.Common.{◌≡◌, ◌&&◌, ◌∙◌}
-use Rattle.usb_text.specs.Field.{pieces}
+use Rattle.usb_words.specs.Field.{pieces}
 use Rattle.usb_text.proofs.Walks.{shaped_line, shaped_step}
 use Rattle.usb_text.proofs.rules.has_words.Goals as goal
 use Rattle.usb_text.proofs.rules.has_words.Goals.{then-whole, else-whole}

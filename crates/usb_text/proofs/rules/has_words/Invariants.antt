@@ -1,5 +1,5 @@
 use Rattle.std.proofs.Common.{◌≡◌, ◌&&◌, drop}
-use Rattle.usb_text.specs.Field.{pieces}
+use Rattle.usb_words.specs.Field.{pieces}
 use Rattle.usb_text.specs.Rules.{has_words}
 use Rattle.usb_text.proofs.Walks.{shaped}
 use Rattle.usb_text.proofs.rules.has_words.Given as goal

@@ -1,0 +1,6 @@
+pub mod Pieces
+pub mod Numbers
+pub mod Pairs
+pub mod Hex
+pub mod Decimal
+pub mod Spaced
