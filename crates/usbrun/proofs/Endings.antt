@@ -133,8 +133,8 @@ module _ (draft : Draft) (left left' : Option (List ℕ)) (new : Lines) (h : Hea
         takes-nothing taken,
       )
 
-  pub fault_ends : Rose reads reads' → IsCut new → Ends status.ReadFault left left' reads reads' taken taken writes writes
-  fault_ends rose cut = (
+  pub fault_ends : is_whole h.heads ≡ false → Rose reads reads' → IsCut new → Ends status.ReadFault left left' reads reads' taken taken writes writes
+  fault_ends going rose cut = (
     rose,
     told_both left left' g.got (λ input rest. (b : ReadSoFar input rest) × Writes b.head b.schedule taken taken) g.reads (
       record {
@@ -145,7 +145,9 @@ module _ (draft : Draft) (left left' : Option (List ℕ)) (new : Lines) (h : Hea
             ap (λ t. t ++ bytes_left left') (gone_cut left left' new_lines new (front_text h.heads []) (length h.heads + 0) g cut.0)
             ∙ append_assoc (front_text h.heads []) new.reader (bytes_left left');
         plain = cut.1;
+        part_of_line = cut.2;
         front = head_front draft left left' new _ h ends refl;
+        set = λ whole. absurd (cc (whole, going));
       },
       takes-nothing taken,
     ),
@@ -209,7 +211,7 @@ head_ends (no.Refused rule) left left' reads reads' writes new taken h ends =
     refused_ends h.draft left left' new h.so_far ends reads reads' writes taken rule h.cause.0 h.cause.1 h.unfinished h.cause.2 h.cause.3 h.cause.4
 head_ends no.Short left left' reads reads' writes new taken h ends =
     short_ends h.draft left left' new h.so_far ends reads reads' writes taken h.unfinished h.cause
-head_ends no.ReadFault left left' reads reads' writes new taken h ends = fault_ends h.draft left left' new h.so_far ends reads reads' writes taken h.cause (h.cut refl)
+head_ends no.ReadFault left left' reads reads' writes new taken h ends = fault_ends h.draft left left' new h.so_far ends reads reads' writes taken h.unfinished h.cause (h.cut refl)
 
 module _ (left0 left1 left2 : Option (List ℕ)) (draft : Draft) (l1 : Lines) (h : HeadSoFar draft left0 left1 new_lines l1) (ok : IsAccepted h.heads)
     (taken0 taken1 taken2 : Option (List ℕ)) (s s' : Session) (starts : s.lines ≡ l1) (has_set : s.run.set ≡ set_of h.heads)
@@ -243,7 +245,7 @@ module _ (left0 left1 left2 : Option (List ℕ)) (draft : Draft) (l1 : Lines) (h
   number r u = omega (arith, (gone r u).lines)
 
   abbrev begins : (r : Stop) (u : Runs r left1 left2 taken0 taken1 s s') → Begins ((gone r u).got ++ bytes_left left2)
-  begins r u = record { head = h.heads; schedule = u.lines; rest = closed (s'.lines.reader ++ bytes_left left2); front = front r u _ refl }
+  begins r u = record { head = h.heads; schedule = u.lines; rest = closed (s'.lines.reader ++ bytes_left left2); front = front r u _ refl; set = λ whole. ok.set }
 
   -- the sink failed
   write_ends : (r : Stop) (u : Runs r left1 left2 taken0 taken1 s s') (waiting : List ℕ) (k : Hands taken1 taken2 s'.writer waiting)
@@ -328,7 +330,9 @@ module _ (left0 left1 left2 : Option (List ℕ)) (draft : Draft) (l1 : Lines) (h
                 ap (λ t. t ++ bytes_left left2) (gone_cut left0 left2 new_lines s'.lines (front_text h.heads u.lines) (length h.heads + length u.lines) (gone stop.ReadFault u) (u.cut refl).0)
                 ∙ append_assoc (front_text h.heads u.lines) s'.lines.reader (bytes_left left2);
             plain = (u.cut refl).1;
+            part_of_line = (u.cut refl).2;
             front = front stop.ReadFault u _ refl;
+            set = λ whole. ok.set;
           },
           writes stop.ReadFault u waiting k none,
         ),

@@ -30,9 +30,9 @@ pub record IsLineAt (n : ℕ) (lines : Lines) : Type 0 where
   pub text : lines.reader ++ closing ≡ take n lines.reader ++ newline ∷ drop (n + 1) lines.reader
   pub closes : (closing ≡ []) ⊎ ((closing ≡ newline ∷ []) × (n ≡ length lines.reader) × (0 < n) × (lines.ended ≡ true))
 
--- no whole line stands in front, and the source didn't end
+-- no whole line stands in front and no line that is too long, and the source didn't end
 abbrev pub IsCut : Lines → Type 0
-IsCut lines = (lines.ended ≡ false) × (is_plain lines.reader ≡ true)
+IsCut lines = (lines.ended ≡ false) × (is_plain lines.reader ≡ true) × (length lines.reader ≤ most_line)
 
 abbrev pub IsNext : declared.Next → Lines → ℕ → ℕ → Type 0
 IsNext (Line n) lines faults faults' = IsLineAt n lines

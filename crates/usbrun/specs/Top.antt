@@ -1,11 +1,12 @@
 -- What the program does, by how it ends.
-use Rattle.std.specs.Prelude.{◌≡◌, ℕ, List, [], ◌∷◌, ◌++◌, true, Option, Some, None, IfSome, codes, ◌⊎◌}
+use Rattle.std.specs.Prelude.{◌≡◌, ℕ, ◌≤◌, List, [], ◌∷◌, ◌++◌, length, true, Option, Some, None, IfSome, codes, ◌⊎◌}
 use Rattle.usb_edge.specs.Stream.{Takes, Rose}
 use Rattle.usb_text.specs.declared.line.DevLine.{DevLine}
 use Rattle.usb_text.specs.declared.head.HeadLine.{HeadLine}
 use Rattle.device_schedule.specs.Schedule.{device_text}
 use Rattle.usb_text.specs.Plain.{is_plain}
-use Rattle.device_schedule.specs.Job.{Job, Spells, IsAccepted, front_text, closed}
+use Rattle.device_schedule.specs.Job.{Job, Spells, IsAccepted, front_text, closed, is_whole, set_fault}
+use Rattle.usb_text.specs.Rules.{most_line}
 use Rattle.device_schedule.specs.Outcome.{Front, RefusesLine, RefusesSet, EndsShort, PassesLimit, Outcome, IsOutcome, set_of}
 use Rattle.device_schedule.specs.Outcome as outcome
 use Rattle.usbrun.specs.declared.status.Status.{Status}
@@ -38,14 +39,17 @@ ToldBoth None None P = (input : List ℕ) × P input []
 ToldBoth (Some input) None P = ⊥
 ToldBoth None (Some left) P = ⊥
 
--- all whole lines of what was read, which is all but what is left: of the next line only a part was read
+-- All whole lines of what was read, which is all but what is left: of the next line only a part was read, and neither the
+-- set nor a line before it was refused.
 pub record ReadSoFar (input left : List ℕ) : Type 0 where
   pub head : List HeadLine
   pub schedule : List DevLine
   pub part : List ℕ
   pub text : input ≡ front_text head schedule ++ (part ++ left)
   pub plain : is_plain part ≡ true
+  pub part_of_line : length part ≤ most_line
   pub front : Front input head schedule (closed (part ++ left))
+  pub set : is_whole head ≡ true → set_fault head ≡ None
 
 -- lines that the bytes begin with, and what follows
 pub record Begins (input : List ℕ) : Type 0 where
@@ -53,6 +57,7 @@ pub record Begins (input : List ℕ) : Type 0 where
   pub schedule : List DevLine
   pub rest : List ℕ
   pub front : Front input head schedule rest
+  pub set : is_whole head ≡ true → set_fault head ≡ None
 
 -- the bytes begin with a whole head with an accepted set
 pub record HasHead (input : List ℕ) : Type 0 where
@@ -86,7 +91,7 @@ Ends status.TooLong left left' reads reads' taken taken' writes writes' =
 -- the program's words decide first: no others than `device` are a command
 abbrev pub Cause : Status → List (List ℕ) → Option (List ℕ) → Option (List ℕ) → ℕ → ℕ → Option (List ℕ) → Option (List ℕ) → ℕ → ℕ → Type 0
 Cause status.Ok words left left' reads reads' taken taken' writes writes' = IsDevice words × Ends status.Ok left left' reads reads' taken taken' writes writes'
-Cause status.Usage words left left' reads reads' taken taken' writes writes' = (IsDevice words → ⊥) × (taken' ≡ taken)
+Cause status.Usage words left left' reads reads' taken taken' writes writes' = (IsDevice words → ⊥) × (taken' ≡ taken) × (left' ≡ left) × (reads' ≡ reads)
 Cause (status.BadJob line rule) words left left' reads reads' taken taken' writes writes' =
     IsDevice words × Ends (status.BadJob line rule) left left' reads reads' taken taken' writes writes'
 Cause (status.BadSet rule at) words left left' reads reads' taken taken' writes writes' =

@@ -1,6 +1,10 @@
 //! Replays a schedule of bus events, handler runs and task runs of a USB device, and answers each line.
 #![tactic(auto)]
 
+ghost use Rattle.std.specs.Prelude.{◌≡◌};
+ghost use Rattle.std.specs.Process.{exit_status};
+ghost use Rattle.usbrun.specs.Status.{status_number};
+
 mod draft;
 mod head;
 mod lines;
@@ -14,6 +18,7 @@ mod top;
 mod writer;
 
 use status::Status;
+use std::io::ErrorKind;
 use std::process::ExitCode;
 use std::{env, io};
 use usb_edge::{FileDisks, StderrSink, StdinSource, StdoutSink};
@@ -47,10 +52,21 @@ fn run_words(rt: &HostRuntime, words: &[String]) -> io::Result<Status> {
     ))
 }
 
+/// With which the process ends.
+fn exit_code(status: Status) -> ExitCode
+    ensures { exit_status result ≡ status_number status }
+{
+    ExitCode::from(status.number())
+}
+
 fn main(rt: HostRuntime) -> ExitCode {
     let status = match words(&rt) {
         Ok(words) => run_words(&rt, words.as_slice()).unwrap_or(Status::NoMemory),
+        // a word that is no text is none of a command's
+        Err(error) if error.kind() == ErrorKind::InvalidData => {
+            run_words(&rt, &[]).unwrap_or(Status::NoMemory)
+        }
         Err(_) => Status::NoMemory,
     };
-    ExitCode::from(status.number())
+    exit_code(status)
 }

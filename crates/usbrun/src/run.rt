@@ -1,4 +1,4 @@
-ghost use Rattle.std.specs.Prelude.{◌≡◌, ◌+◌, ◌≤◌, ◌<◌, [], ◌++◌, Some, false, IfNone, IsTrue, true};
+ghost use Rattle.std.specs.Prelude.{◌≡◌, ◌+◌, ◌≤◌, ◌<◌, [], ◌++◌, Some, false, IfNone, IsTrue, true, ◌⊎◌};
 ghost use Rattle.usb_edge.specs.Stream.{Rose, IsAtEnd};
 ghost use Rattle.device_machine.specs.Core.{start};
 ghost use Rattle.usb_text.specs.Scheduled.{device_line};
@@ -67,6 +67,7 @@ fn look<S: Source, K: Sink>(session: &mut Session, src: &mut S, out: &mut K) -> 
     requires { (session.old.lines.ended ≡ true) → IsAtEnd (S.left src.old) }
     ensures looks { Looks (S.left src.old) (S.left src.new) (K.taken out.old) (K.taken out.new) session.old session.new }
     ensures next { FindsNext result session.new (S.faults src.old) (S.faults src.new) }
+    ensures handed { (src.new ≡ src.old) ⊎ (session.new.writer ≡ []) }
     ensures ended { (session.new.lines.ended ≡ true) → IsAtEnd (S.left src.new) }
     ensures failed { IfNone result (Rose (K.faults out.old) (K.faults out.new)) }
     ensures source { S.faults src.old ≤ S.faults src.new }

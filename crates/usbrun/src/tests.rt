@@ -411,3 +411,37 @@ fn errors_change_nothing(rt: HostRuntime) -> Result<(), Fail> {
     }
     Ok(())
 }
+
+/// The line of each status, byte for byte.
+#[test]
+fn tells_statuses(rt: HostRuntime) {
+    for (status, number, line) in [
+        (Status::Ok, 0, ""),
+        (Status::Usage, 1, "usbrun: usage\n"),
+        (
+            Status::BadJob {
+                line: 4294967295,
+                rule: 8,
+            },
+            2,
+            "usbrun: line 4294967295 rule 8\n",
+        ),
+        (
+            Status::BadSet { rule: 18, at: 511 },
+            3,
+            "usbrun: set rule 18 at 511\n",
+        ),
+        (Status::ReadFault, 4, "usbrun: read fault\n"),
+        (Status::WriteFault, 5, "usbrun: write fault\n"),
+        (Status::NoMemory, 6, "usbrun: no memory\n"),
+        (
+            Status::Short { lines: 0 },
+            9,
+            "usbrun: job ends at line 0\n",
+        ),
+        (Status::TooLong, 10, "usbrun: job too long\n"),
+    ] {
+        assert_eq!(rt; status.number(), number);
+        assert_eq!(rt; status.line().as_slice(), line.as_bytes());
+    }
+}
