@@ -283,8 +283,20 @@ def changed(rng, job):
     return bytes(job)
 
 
+def words_are_refused(program):
+    """Whether words that are none of a command's, one that is no text among them, end with status 1 and its line."""
+    for words in ([], [b"\xff"], [b"device", b"\xff\xfe"], [b"device", b"device"]):
+        done = subprocess.run([program, *words], stdin=subprocess.DEVNULL, capture_output=True, check=False)
+        if (done.returncode, done.stdout, done.stderr) != (1, b"", b"usbrun: usage\n"):
+            print(f"words {words} differ: {done.returncode} {done.stderr!r}")
+            return False
+    return True
+
+
 def main():
     program = sys.argv[1]
+    if not words_are_refused(program):
+        return 1
     jobs = int(sys.argv[2]) if len(sys.argv) > 2 else 400
     rng = random.Random(int(sys.argv[3]) if len(sys.argv) > 3 else 1)
     statuses = {}
