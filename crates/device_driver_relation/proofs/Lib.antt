@@ -1,0 +1,17 @@
+pub mod Entries
+pub mod Determined
+pub mod SetupEvents
+pub mod OutEvents
+pub mod InEvents
+pub mod Stages
+pub mod Pops
+pub mod Taken
+pub mod Words
+pub mod Loads
+pub mod Serves
+pub mod Resets
+pub mod Runs
+pub mod Calls
+pub mod Events
+pub mod Closes
+pub mod Opens

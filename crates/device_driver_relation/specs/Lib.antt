@@ -1,0 +1,5 @@
+pub mod Software
+pub mod Relation
+pub mod Port
+pub mod Run
+pub mod Laws

@@ -1,0 +1,5 @@
+pub mod Goes
+pub mod Loops
+pub mod Chunks
+pub mod Sound
+pub mod Opened

@@ -1,0 +1,13 @@
+-- What was popped, and what is still to be popped, are all.
+use Rattle.std.proofs.Common.{◌≡◌, ◌+◌, ◌-◌, ◌≤◌, []}
+use Rattle.device_driver_relation.specs.Run.{popped_all}
+use Rattle.dwc2_device.specs.Driver.{GoesOn}
+use Rattle.dwc2_device.proofs.port.DevPort.pop_all.Given as goal
+
+abbrev pub invariant-loop : goal.invariant-loop
+invariant-loop g l =
+    (popped_all (8 - l.counter) l.self.bank.table ≡ popped_all 8 l.initial.self.bank.table)
+    × (l.self.software ≡ l.initial.self.software)
+    × (l.initial.self.bank.spare ≤ l.self.bank.spare + l.counter)
+    × (l.self.bank.due ≡ [])
+    × GoesOn l.initial.self.bank l.self.bank

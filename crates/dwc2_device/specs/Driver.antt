@@ -1,0 +1,21 @@
+-- The driver with its controller, and how the controller moves.
+use Rattle.std.specs.Prelude.{◌≡◌, ℕ}
+use Rattle.controller_table.specs.Bank.{Bank, bank_read, bank_write}
+use Rattle.device_driver_relation.specs.Software.{Software, Joint}
+
+pub record Driver : Type 0 where
+  pub bank : Bank
+  pub software : Software
+
+abbrev pub joint : Driver → Joint
+joint d = record { table = d.bank.table; software = d.software }
+
+-- a bank comes from another by accesses
+pub data Moves : Bank → Bank → Type 0 where
+  stays : {a : Bank} → Moves a a
+  reads : {a b c : Bank} → Moves a b → (off : ℕ) → c ≡ bank_read b off → Moves a c
+  writes : {a b c : Bank} → Moves a b → (off word : ℕ) → c ≡ bank_write b off word → Moves a c
+
+-- what moved to the old bank moved to the new one
+abbrev pub GoesOn : Bank → Bank → Type 0
+GoesOn old new = (start : Bank) → Moves start old → Moves start new

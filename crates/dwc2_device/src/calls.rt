@@ -1,0 +1,193 @@
+//! The calls between handler runs.
+ghost use Rattle.std.specs.Prelude.{◌≡◌, ℕ, ◌+◌, ◌≤◌, ◌<◌, [], true, false, IsTrue, Some, None, length, slice_index};
+ghost use Rattle.dwc2_regs.specs.Register.{diepctl, doepctl};
+ghost use Rattle.controller_table.specs.Write.{after_write};
+ghost use Rattle.device_driver_relation.specs.Relation.{IsSound, IsPacket};
+ghost use Rattle.device_driver_relation.specs.Port.{port_of, may_start, started, armed, stalled, addressed, without_endpoints};
+ghost use Rattle.device_driver_relation.specs.Run.{with_table, unstalled, out_armed, run_start, run_arm, run_stall, run_address, run_close};
+ghost use Rattle.dwc2_device.specs.Driver.{joint, GoesOn};
+
+use crate::DevPort;
+use crate::words::STALL;
+use arrayvec::ArrayVec;
+use device_driver_relation::Ready;
+use dwc2_access::Regs;
+use usb_packet::Packet;
+
+impl<R: Regs + Drop> DevPort<R> {
+    /// Endpoint 0 has this packet for the host from the next handler run on. `last` is true exactly for the last packet of
+    /// data for the host, with which the status stage is armed (USB 2.0, 8.5.3.3). A control transfer has to run: a SETUP
+    /// was noted since the last reset, and nothing is on its way on endpoint 0.
+    pub fn start_ep0(&mut self, packet: &Packet, last: bool)
+        requires sound { IsSound (joint self.old) }
+        requires free { IsTrue (may_start (port_of (joint self.old)).bus.side) }
+        requires heard { (port_of (joint self.old)).heard ≡ true }
+        requires spare { 2 ≤ self.old.bank.spare }
+        requires still { self.old.bank.due ≡ [] }
+        ensures port { port_of (joint self.new) ≡ started (port_of (joint self.old)) packet.now last }
+        ensures sound { IsSound (joint self.new) }
+        ensures spare { self.old.bank.spare ≤ self.new.bank.spare + 2 }
+        ensures still { self.new.bank.due ≡ [] }
+        ensures goes { GoesOn self.old.bank self.new.bank }
+    {
+        fits(packet);
+        self.wait(packet, last);
+    }
+
+    pub(crate) fn wait(&mut self, packet: &Packet, last: bool)
+        requires spare { 2 ≤ self.old.bank.spare }
+        requires still { self.old.bank.due ≡ [] }
+        ensures joint { joint self.new ≡ run_start (joint self.old) packet.now last }
+        ensures spare { self.old.bank.spare ≤ self.new.bank.spare + 2 }
+        ensures still { self.new.bank.due ≡ [] }
+        ensures goes { GoesOn self.old.bank self.new.bank }
+    {
+        self.end_stall();
+        self.side = Ready::Wait {
+            packet: packet.copy(),
+            last,
+        };
+        self.next_address = None;
+    }
+
+    /// Endpoint 0 is armed for a packet from the host. What has to hold before is as for [`DevPort::start_ep0`].
+    pub fn arm_ep0(&mut self)
+        requires sound { IsSound (joint self.old) }
+        requires free { IsTrue (may_start (port_of (joint self.old)).bus.side) }
+        requires heard { (port_of (joint self.old)).heard ≡ true }
+        requires spare { 3 ≤ self.old.bank.spare }
+        requires still { self.old.bank.due ≡ [] }
+        ensures port { port_of (joint self.new) ≡ armed (port_of (joint self.old)) }
+        ensures sound { IsSound (joint self.new) }
+        ensures spare { self.old.bank.spare ≤ self.new.bank.spare + 3 }
+        ensures still { self.new.bank.due ≡ [] }
+        ensures goes { GoesOn self.old.bank self.new.bank }
+    {
+        self.arm();
+    }
+
+    pub(crate) fn arm(&mut self)
+        requires spare { 3 ≤ self.old.bank.spare }
+        requires still { self.old.bank.due ≡ [] }
+        ensures joint { joint self.new ≡ run_arm (joint self.old) }
+        ensures spare { self.old.bank.spare ≤ self.new.bank.spare + 3 }
+        ensures still { self.new.bank.due ≡ [] }
+        ensures goes { GoesOn self.old.bank self.new.bank }
+    {
+        self.end_stall();
+        self.arm_out();
+        self.side = Ready::Armed;
+        self.next_address = None;
+    }
+
+    /// Endpoint 0 answers STALL until the next SETUP (USB 2.0, 8.5.3.4). Nothing may be on its way on it.
+    pub fn stall_ep0(&mut self)
+        requires sound { IsSound (joint self.old) }
+        requires free { IsTrue (may_start (port_of (joint self.old)).bus.side) }
+        requires spare { 2 ≤ self.old.bank.spare }
+        requires still { self.old.bank.due ≡ [] }
+        ensures port { port_of (joint self.new) ≡ stalled (port_of (joint self.old)) }
+        ensures sound { IsSound (joint self.new) }
+        ensures spare { self.old.bank.spare ≤ self.new.bank.spare + 2 }
+        ensures still { self.new.bank.due ≡ [] }
+        ensures goes { GoesOn self.old.bank self.new.bank }
+    {
+        self.stall();
+    }
+
+    pub(crate) fn stall(&mut self)
+        requires spare { 2 ≤ self.old.bank.spare }
+        requires still { self.old.bank.due ≡ [] }
+        ensures joint { joint self.new ≡ run_stall (joint self.old) }
+        ensures spare { self.old.bank.spare ≤ self.new.bank.spare + 2 }
+        ensures still { self.new.bank.due ≡ [] }
+        ensures goes { GoesOn self.old.bank self.new.bank }
+    {
+        self.write_in_control(0, STALL);
+        self.write_out_control(0, STALL);
+        self.side = Ready::Stall;
+        self.next_address = None;
+    }
+
+    /// STALL is kept as written, so that a write without it ends it.
+    fn end_stall(&mut self)
+        requires spare { 2 ≤ self.old.bank.spare }
+        requires still { self.old.bank.due ≡ [] }
+        ensures joint { joint self.new ≡ with_table (joint self.old) (unstalled self.old.bank.table self.old.software.side) }
+        ensures spare { self.old.bank.spare ≤ self.new.bank.spare + 2 }
+        ensures still { self.new.bank.due ≡ [] }
+        ensures goes { GoesOn self.old.bank self.new.bank }
+    {
+        match self.side {
+            Ready::Stall => {
+                self.write_in_control(0, 0);
+                self.write_out_control(0, 0);
+            }
+            Ready::Off => {}
+            Ready::Wait { .. } => {}
+            Ready::Loaded => {}
+            Ready::Last => {}
+            Ready::Armed => {}
+        }
+    }
+
+    /// The device has this address, at most 127, from the handler run on that finds the packet acknowledged which endpoint 0
+    /// has for the host (USB 2.0, 9.4.6). A call that gives endpoint 0 something else to do forgets it.
+    pub fn set_address(&mut self, addr: u8)
+        requires sound { IsSound (joint self.old) }
+        requires address { addr < 128 }
+        ensures port { port_of (joint self.new) ≡ addressed (port_of (joint self.old)) addr }
+        ensures sound { IsSound (joint self.new) }
+        ensures bank { self.new.bank ≡ self.old.bank }
+    {
+        self.keep_address(addr);
+    }
+
+    /// All endpoints but endpoint 0 are closed.
+    pub fn close_all(&mut self)
+        requires sound { IsSound (joint self.old) }
+        requires spare { 6 ≤ self.old.bank.spare }
+        requires still { self.old.bank.due ≡ [] }
+        ensures port { port_of (joint self.new) ≡ without_endpoints (port_of (joint self.old)) }
+        ensures sound { IsSound (joint self.new) }
+        ensures spare { self.old.bank.spare ≤ self.new.bank.spare + 6 }
+        ensures still { self.new.bank.due ≡ [] }
+        ensures goes { GoesOn self.old.bank self.new.bank }
+    {
+        self.close();
+    }
+
+    fn close(&mut self)
+        requires spare { 6 ≤ self.old.bank.spare }
+        requires still { self.old.bank.due ≡ [] }
+        ensures joint { joint self.new ≡ run_close (joint self.old) }
+        ensures spare { self.old.bank.spare ≤ self.new.bank.spare + 6 }
+        ensures still { self.new.bank.due ≡ [] }
+        ensures goes { GoesOn self.old.bank self.new.bank }
+    {
+        self.close_others();
+        self.open_ones = ArrayVec::new();
+    }
+
+    pub(crate) fn keep_address(&mut self, addr: u8)
+        ensures joint { joint self.new ≡ run_address (joint self.old) addr }
+        ensures bank { self.new.bank ≡ self.old.bank }
+    {
+        self.next_address = Some(addr);
+    }
+}
+
+/// A packet has at most 64 bytes.
+fn fits(packet: &Packet)
+    ensures size { length packet.now ≤ 64 }
+    ensures below { (i : ℕ) → slice_index packet.now i < 256 }
+{
+    below(packet.bytes());
+}
+
+/// Bytes are numbers below 256.
+fn below(bytes: &[u8])
+    ensures { (i : ℕ) → slice_index bytes.now i < 256 }
+{
+    let _ = bytes;
+}

@@ -1,0 +1,23 @@
+//! The driver of a device's DWC2 controller (after RM0090, OTG_FS; USB 2.0, 8.5.3): it serves endpoint 0 through the
+//! registers alone.
+//!
+//! [`DevPort`] works over any [`dwc2_access::Regs`]. Its contracts say, of the device that controller and software are
+//! together, what a handler run and each call make of it; the definitions are those of the crate
+//! `device_driver_relation`.
+#![tactic(auto)]
+
+mod calls;
+mod endpoints;
+mod handler;
+mod init;
+mod notes;
+mod port;
+mod receive;
+mod reset;
+mod send;
+#[cfg(test)]
+mod tests;
+mod words;
+
+pub use notes::Note;
+pub use port::DevPort;

@@ -1,0 +1,149 @@
+ghost use Rattle.std.specs.Prelude.{◌≡◌, ◌+◌, ◌≤◌, [], false};
+ghost use Rattle.std.specs.Borrow.{Lends, sem};
+ghost use Rattle.dwc2_access.specs.Registers.{IsRegister};
+ghost use Rattle.dwc2_regs.specs.declared.access.TheConstants.{FS4};
+ghost use Rattle.controller_table.specs.Bank.{bank_read, bank_write};
+ghost use Rattle.controller_table.specs.Read.{read_value, read_table};
+ghost use Rattle.controller_table.specs.Write.{write_table, after_write};
+ghost use Rattle.dwc2_regs.specs.Register.{diepctl, diepint, doepctl, doepint};
+ghost use Rattle.device_driver_relation.specs.Software.{unused};
+ghost use Rattle.device_driver_relation.specs.Run.{with_table};
+ghost use Rattle.dwc2_device.specs.Driver.{joint, GoesOn};
+
+use arrayvec::ArrayVec;
+use device_driver_relation::{Heard, Ready};
+use device_machine::Stage;
+use dwc2_access::Regs;
+use dwc2_regs::{Profile, diepctl, diepint, doepctl, doepint};
+use std::marker::Model;
+use usb_descriptor::Endpoint;
+
+/// The driver of a device's controller. A clause sees it as the controller and what the driver keeps.
+#[derive(Drop)]
+pub struct DevPort<R: Regs> {
+    pub(crate) regs: R,
+    pub(crate) side: Ready,
+    pub(crate) heard: Heard,
+    pub(crate) next_address: Option<u8>,
+    pub(crate) open_ones: ArrayVec<Endpoint, 30>,
+    pub(crate) reset: bool,
+    pub(crate) finished: Option<Stage>,
+    pub(crate) request: Option<[u8; 8]>,
+}
+
+impl<R: Regs> Model for DevPort<R> {
+    ghost use Rattle.dwc2_device.specs.Driver.{Driver};
+
+    ghost Value = { Driver };
+
+    ghost view = { λ p. record { bank = R.bank p.regs; software = record { side = p.side; heard = p.heard; next_address = p.next_address; open_ones = p.open_ones.items; reset = p.reset; finished = p.finished; request = p.request } } };
+}
+
+impl<R: Regs + Drop> DevPort<R> {
+    ghost use Rattle.dwc2_device.specs.contracts.port.DevPort.{the_row};
+
+    /// A driver of this controller, which has to be an `FS4` at its start. It has no note, and makes no access.
+    #[allow(unused_variables)]
+    pub fn new(regs: R, profile: Profile) -> DevPort<R>
+        requires { profile ≡ FS4 }
+        ensures { result ≡ record { bank = R.bank regs; software = unused false } }
+    {
+        DevPort {
+            regs,
+            side: Ready::Off,
+            heard: Heard::Nothing,
+            next_address: None,
+            open_ones: ArrayVec::new(),
+            reset: false,
+            finished: None,
+            request: None,
+        }
+    }
+
+    /// The controller, for bus events and to begin to count accesses.
+    pub fn regs(&mut self) -> &mut R
+        ensures value { R.bank result.now ≡ self.old.bank }
+        ensures* writes_back { sem 𝓛 (Lends (the_row R.row R.Regs) R.row self.entry result (λ w. record self.old { bank = R.bank w })) }
+    {
+        &mut self.regs
+    }
+
+    #[tactic(auto, using(crate::proofs::Goes::read_goes_on))]
+    pub(crate) fn read(&mut self, off: u16) -> u32
+        requires known { IsRegister off }
+        requires spare { 1 ≤ self.old.bank.spare }
+        requires still { self.old.bank.due ≡ [] }
+        ensures value { result ≡ read_value self.old.bank.table off }
+        ensures joint { joint self.new ≡ with_table (joint self.old) (read_table self.old.bank.table off) }
+        ensures spare { self.old.bank.spare ≤ self.new.bank.spare + 1 }
+        ensures still { self.new.bank.due ≡ [] }
+        ensures goes { GoesOn self.old.bank self.new.bank }
+    {
+        self.regs.read(off)
+    }
+
+    #[tactic(auto, using(crate::proofs::Goes::write_goes_on))]
+    pub(crate) fn write(&mut self, off: u16, word: u32)
+        requires known { IsRegister off }
+        requires spare { 1 ≤ self.old.bank.spare }
+        requires still { self.old.bank.due ≡ [] }
+        ensures joint { joint self.new ≡ with_table (joint self.old) (write_table self.old.bank.table off word) }
+        ensures spare { self.old.bank.spare ≤ self.new.bank.spare + 1 }
+        ensures still { self.new.bank.due ≡ [] }
+        ensures goes { GoesOn self.old.bank self.new.bank }
+    {
+        self.regs.write(off, word);
+    }
+
+    /// A word is written to DIEPCTLx.
+    pub(crate) fn write_in_control(&mut self, x: u8, word: u32)
+        requires known { x ≤ 11 }
+        requires spare { 1 ≤ self.old.bank.spare }
+        requires still { self.old.bank.due ≡ [] }
+        ensures joint { joint self.new ≡ with_table (joint self.old) (after_write self.old.bank.table (diepctl x) word) }
+        ensures spare { self.old.bank.spare ≤ self.new.bank.spare + 1 }
+        ensures still { self.new.bank.due ≡ [] }
+        ensures goes { GoesOn self.old.bank self.new.bank }
+    {
+        self.write(diepctl(x), word);
+    }
+
+    /// A word is written to DOEPCTLx.
+    pub(crate) fn write_out_control(&mut self, x: u8, word: u32)
+        requires known { x ≤ 11 }
+        requires spare { 1 ≤ self.old.bank.spare }
+        requires still { self.old.bank.due ≡ [] }
+        ensures joint { joint self.new ≡ with_table (joint self.old) (after_write self.old.bank.table (doepctl x) word) }
+        ensures spare { self.old.bank.spare ≤ self.new.bank.spare + 1 }
+        ensures still { self.new.bank.due ≡ [] }
+        ensures goes { GoesOn self.old.bank self.new.bank }
+    {
+        self.write(doepctl(x), word);
+    }
+
+    /// A word is written to DIEPINTx.
+    pub(crate) fn clear_in_interrupts(&mut self, x: u8, word: u32)
+        requires known { x ≤ 11 }
+        requires spare { 1 ≤ self.old.bank.spare }
+        requires still { self.old.bank.due ≡ [] }
+        ensures joint { joint self.new ≡ with_table (joint self.old) (after_write self.old.bank.table (diepint x) word) }
+        ensures spare { self.old.bank.spare ≤ self.new.bank.spare + 1 }
+        ensures still { self.new.bank.due ≡ [] }
+        ensures goes { GoesOn self.old.bank self.new.bank }
+    {
+        self.write(diepint(x), word);
+    }
+
+    /// A word is written to DOEPINTx.
+    pub(crate) fn clear_out_interrupts(&mut self, x: u8, word: u32)
+        requires known { x ≤ 11 }
+        requires spare { 1 ≤ self.old.bank.spare }
+        requires still { self.old.bank.due ≡ [] }
+        ensures joint { joint self.new ≡ with_table (joint self.old) (after_write self.old.bank.table (doepint x) word) }
+        ensures spare { self.old.bank.spare ≤ self.new.bank.spare + 1 }
+        ensures still { self.new.bank.due ≡ [] }
+        ensures goes { GoesOn self.old.bank self.new.bank }
+    {
+        self.write(doepint(x), word);
+    }
+}

@@ -1,0 +1,178 @@
+//! The receive FIFO: the packet and the SETUPs that came on endpoint 0.
+ghost use Rattle.std.specs.Prelude.{◌≡◌, ℕ, ◌+◌, ◌-◌, ◌*◌, ◌≤◌, [], ◌++◌, length, min};
+ghost use Rattle.dwc2_regs.specs.Field.{field_of};
+ghost use Rattle.dwc2_regs.specs.Word.{bytes_of};
+ghost use Rattle.dwc2_regs.specs.Register.{grxstsp};
+ghost use Rattle.dwc2_fifo.specs.Words.{word_count, bytes_in};
+ghost use Rattle.controller_table.specs.Read.{value_read, after_read};
+ghost use Rattle.controller_table.specs.Write.{after_write};
+ghost use Rattle.device_driver_relation.specs.Run.{with_table, after_words, words_read, bytes_read, packet_taken, setup_taken, setup_ended, entry_taken, entries_taken, byte_count, most_entries};
+ghost use Rattle.dwc2_device.specs.Driver.{joint, GoesOn};
+
+use crate::DevPort;
+use crate::words::{ALL_OUT_INTERRUPTS, SNAK_EPDIS, XFRC};
+use arrayvec::ArrayVec;
+use device_driver_relation::{Heard, Ready};
+use device_machine::Stage;
+use dwc2_access::Regs;
+use dwc2_regs::{GRXSTSP, GRXSTSP_BYTES, GRXSTSP_STATUS, fifo_window, get_field};
+use usb_packet::Packet;
+
+/// The most entries that lie there.
+pub const MOST_ENTRIES: u8 = 8;
+
+/// What kind of entry it is.
+const OUT_DATA: u32 = 2;
+
+const OUT_DONE: u32 = 3;
+
+const SETUP_DONE: u32 = 4;
+
+const SETUP_DATA: u32 = 6;
+
+/// The bytes of two words, the lowest first.
+fn eight_bytes(low: u32, high: u32) -> [u8; 8]
+    ensures { result ≡ bytes_of 4 low ++ bytes_of 4 high }
+{
+    let low = low.to_le_bytes();
+    let high = high.to_le_bytes();
+    [
+        low[0], low[1], low[2], low[3], high[0], high[1], high[2], high[3],
+    ]
+}
+
+impl<R: Regs + Drop> DevPort<R> {
+    /// Takes what lies in the receive FIFO, entry by entry: a packet and three SETUPs at most, of two entries each.
+    #[tactic(auto, using(crate::proofs::Loops::steps))]
+    pub(crate) fn take_entries(&mut self)
+        requires spare { 160 ≤ self.old.bank.spare }
+        requires still { self.old.bank.due ≡ [] }
+        ensures joint { joint self.new ≡ entries_taken most_entries (joint self.old) }
+        ensures spare { self.old.bank.spare ≤ self.new.bank.spare + 160 }
+        ensures still { self.new.bank.due ≡ [] }
+        ensures goes { GoesOn self.old.bank self.new.bank }
+    {
+        for _ in 0..MOST_ENTRIES {
+            let status = self.pop();
+            if status == 0 {
+                return;
+            }
+            self.take_entry(status);
+        }
+    }
+
+    pub(crate) fn pop(&mut self) -> u32
+        requires spare { 1 ≤ self.old.bank.spare }
+        requires still { self.old.bank.due ≡ [] }
+        ensures value { result ≡ value_read self.old.bank.table grxstsp }
+        ensures joint { joint self.new ≡ with_table (joint self.old) (after_read self.old.bank.table grxstsp) }
+        ensures spare { self.old.bank.spare ≤ self.new.bank.spare + 1 }
+        ensures still { self.new.bank.due ≡ [] }
+        ensures goes { GoesOn self.old.bank self.new.bank }
+    {
+        self.read(GRXSTSP)
+    }
+
+    /// What the entry is whose status was popped.
+    fn take_entry(&mut self, status: u32)
+        requires spare { 19 ≤ self.old.bank.spare }
+        requires still { self.old.bank.due ≡ [] }
+        ensures joint { joint self.new ≡ entry_taken (joint self.old) status }
+        ensures spare { self.old.bank.spare ≤ self.new.bank.spare + 19 }
+        ensures still { self.new.bank.due ≡ [] }
+        ensures goes { GoesOn self.old.bank self.new.bank }
+    {
+        match get_field(status, GRXSTSP_STATUS) {
+            SETUP_DATA => self.take_setup(),
+            SETUP_DONE => self.end_setup(),
+            OUT_DATA => self.take_packet(get_field(status, GRXSTSP_BYTES)),
+            OUT_DONE => self.clear_out_interrupts(0, XFRC),
+            _ => {}
+        }
+    }
+
+    /// The bytes of a SETUP.
+    fn take_setup(&mut self)
+        requires spare { 2 ≤ self.old.bank.spare }
+        requires still { self.old.bank.due ≡ [] }
+        ensures joint { joint self.new ≡ setup_taken (joint self.old) }
+        ensures spare { self.old.bank.spare ≤ self.new.bank.spare + 2 }
+        ensures still { self.new.bank.due ≡ [] }
+        ensures goes { GoesOn self.old.bank self.new.bank }
+    {
+        let low = self.read(fifo_window(0));
+        let high = self.read(fifo_window(0));
+        self.request = Some(eight_bytes(low, high));
+    }
+
+    /// At the end of a SETUP endpoint 0 is disabled, and what was ready is forgotten.
+    fn end_setup(&mut self)
+        requires spare { 3 ≤ self.old.bank.spare }
+        requires still { self.old.bank.due ≡ [] }
+        ensures joint { joint self.new ≡ setup_ended (joint self.old) }
+        ensures spare { self.old.bank.spare ≤ self.new.bank.spare + 3 }
+        ensures still { self.new.bank.due ≡ [] }
+        ensures goes { GoesOn self.old.bank self.new.bank }
+    {
+        self.write_in_control(0, SNAK_EPDIS);
+        self.write_out_control(0, SNAK_EPDIS);
+        self.clear_out_interrupts(0, ALL_OUT_INTERRUPTS);
+        self.side = Ready::Off;
+        self.heard = Heard::Setup;
+        self.next_address = None;
+    }
+
+    /// A packet of so many bytes.
+    fn take_packet(&mut self, bytes: u32)
+        requires spare { 16 ≤ self.old.bank.spare }
+        requires still { self.old.bank.due ≡ [] }
+        ensures joint { joint self.new ≡ packet_taken (joint self.old) (min bytes 64) }
+        ensures spare { self.old.bank.spare ≤ self.new.bank.spare + 16 }
+        ensures still { self.new.bank.due ≡ [] }
+        ensures goes { GoesOn self.old.bank self.new.bank }
+    {
+        let packet = self.read_packet(bytes.min(64) as usize);
+        self.side = Ready::Off;
+        self.heard = Heard::Packet;
+        self.finished = Some(Stage::Came(packet));
+    }
+
+    /// The words of a packet of so many bytes are read.
+    fn read_packet(&mut self, bytes: usize) -> Packet
+        requires few { bytes ≤ 64 }
+        requires spare { 16 ≤ self.old.bank.spare }
+        requires still { self.old.bank.due ≡ [] }
+        ensures value { result ≡ bytes_read bytes self.old.bank.table }
+        ensures joint { joint self.new ≡ with_table (joint self.old) (after_words (word_count bytes) self.old.bank.table) }
+        ensures spare { self.old.bank.spare ≤ self.new.bank.spare + 16 }
+        ensures still { self.new.bank.due ≡ [] }
+        ensures goes { GoesOn self.old.bank self.new.bank }
+    {
+        let mut items = self.read_words(bytes.div_ceil(4));
+        items.truncate(bytes);
+        match Packet::new(items.as_slice()) {
+            Ok(packet) => packet,
+            Err(_) => Packet::empty(),
+        }
+    }
+
+    /// So many words of window 0, as bytes.
+    #[tactic(auto, using(crate::proofs::Loops::steps))]
+    fn read_words(&mut self, words: usize) -> ArrayVec<u8, 64>
+        requires few { words ≤ 16 }
+        requires spare { 16 ≤ self.old.bank.spare }
+        requires still { self.old.bank.due ≡ [] }
+        ensures value { result.items ≡ bytes_in (words_read words self.old.bank.table.rx.left) }
+        ensures joint { joint self.new ≡ with_table (joint self.old) (after_words words self.old.bank.table) }
+        ensures spare { self.old.bank.spare ≤ self.new.bank.spare + 16 }
+        ensures still { self.new.bank.due ≡ [] }
+        ensures goes { GoesOn self.old.bank self.new.bank }
+    {
+        let mut items = ArrayVec::new();
+        for _ in 0..words {
+            let word = self.read(fifo_window(0));
+            let _ = items.try_extend_from_slice(&word.to_le_bytes());
+        }
+        items
+    }
+}

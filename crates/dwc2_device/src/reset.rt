@@ -1,0 +1,166 @@
+//! A bus reset, served.
+ghost use Rattle.std.specs.Prelude.{◌≡◌, ◌+◌, ◌*◌, ◌≤◌, [], true};
+ghost use Rattle.dwc2_regs.specs.Register.{dcfg, grstctl, gintsts};
+ghost use Rattle.controller_table.specs.Write.{after_write};
+ghost use Rattle.device_driver_relation.specs.Software.{unused};
+ghost use Rattle.device_driver_relation.specs.Run.{with_table, pipe_closed, pipes_closed, others_closed, interrupts_cleared, all_cleared, popped_all, reset_served, flush_all, reset_bits};
+ghost use Rattle.dwc2_device.specs.Driver.{joint, GoesOn};
+
+use crate::DevPort;
+use crate::receive::MOST_ENTRIES;
+use crate::words::{ALL_IN_INTERRUPTS, ALL_OUT_INTERRUPTS, FLUSH_ALL, RESET_BITS, SNAK_EPDIS};
+use arrayvec::ArrayVec;
+use device_driver_relation::{Heard, Ready};
+use dwc2_access::Regs;
+use dwc2_regs::{DCFG, GINTSTS, GRSTCTL};
+
+impl<R: Regs + Drop> DevPort<R> {
+    /// All endpoints are closed and all FIFOs emptied before the bits of the reset are cleared, which wakes the device.
+    pub(crate) fn serve_reset(&mut self)
+        requires spare { 27 ≤ self.old.bank.spare }
+        requires still { self.old.bank.due ≡ [] }
+        ensures joint { joint self.new ≡ record { table = reset_served self.old.bank.table; software = unused true } }
+        ensures spare { self.old.bank.spare ≤ self.new.bank.spare + 27 }
+        ensures still { self.new.bank.due ≡ [] }
+        ensures goes { GoesOn self.old.bank self.new.bank }
+    {
+        self.write_dcfg(0);
+        self.close_pipes();
+        self.flush_all();
+        self.pop_all();
+        self.clear_all();
+        self.end_reset();
+        self.forget();
+    }
+
+    fn forget(&mut self)
+        ensures { self.new ≡ record self.old { software = unused true } }
+    {
+        self.side = Ready::Off;
+        self.heard = Heard::Nothing;
+        self.next_address = None;
+        self.open_ones = ArrayVec::new();
+        self.reset = true;
+        self.finished = None;
+        self.request = None;
+    }
+
+    pub(crate) fn write_dcfg(&mut self, word: u32)
+        requires spare { 1 ≤ self.old.bank.spare }
+        requires still { self.old.bank.due ≡ [] }
+        ensures joint { joint self.new ≡ with_table (joint self.old) (after_write self.old.bank.table dcfg word) }
+        ensures spare { self.old.bank.spare ≤ self.new.bank.spare + 1 }
+        ensures still { self.new.bank.due ≡ [] }
+        ensures goes { GoesOn self.old.bank self.new.bank }
+    {
+        self.write(DCFG, word);
+    }
+
+    fn flush_all(&mut self)
+        requires spare { 1 ≤ self.old.bank.spare }
+        requires still { self.old.bank.due ≡ [] }
+        ensures joint { joint self.new ≡ with_table (joint self.old) (after_write self.old.bank.table grstctl flush_all) }
+        ensures spare { self.old.bank.spare ≤ self.new.bank.spare + 1 }
+        ensures still { self.new.bank.due ≡ [] }
+        ensures goes { GoesOn self.old.bank self.new.bank }
+    {
+        self.write(GRSTCTL, FLUSH_ALL);
+    }
+
+    fn end_reset(&mut self)
+        requires spare { 1 ≤ self.old.bank.spare }
+        requires still { self.old.bank.due ≡ [] }
+        ensures joint { joint self.new ≡ with_table (joint self.old) (after_write self.old.bank.table gintsts reset_bits) }
+        ensures spare { self.old.bank.spare ≤ self.new.bank.spare + 1 }
+        ensures still { self.new.bank.due ≡ [] }
+        ensures goes { GoesOn self.old.bank self.new.bank }
+    {
+        self.write(GINTSTS, RESET_BITS);
+    }
+
+    /// Both directions of one endpoint answer NAK and are disabled and closed.
+    fn close_pipe(&mut self, x: u8)
+        requires known { x ≤ 3 }
+        requires spare { 2 ≤ self.old.bank.spare }
+        requires still { self.old.bank.due ≡ [] }
+        ensures joint { joint self.new ≡ with_table (joint self.old) (pipe_closed self.old.bank.table x) }
+        ensures spare { self.old.bank.spare ≤ self.new.bank.spare + 2 }
+        ensures still { self.new.bank.due ≡ [] }
+        ensures goes { GoesOn self.old.bank self.new.bank }
+    {
+        self.write_in_control(x, SNAK_EPDIS);
+        self.write_out_control(x, SNAK_EPDIS);
+    }
+
+    #[tactic(auto, unfolding(device_driver_relation::specs::Run::pipes_closed))]
+    fn close_pipes(&mut self)
+        requires spare { 8 ≤ self.old.bank.spare }
+        requires still { self.old.bank.due ≡ [] }
+        ensures joint { joint self.new ≡ with_table (joint self.old) (pipes_closed self.old.bank.table) }
+        ensures spare { self.old.bank.spare ≤ self.new.bank.spare + 8 }
+        ensures still { self.new.bank.due ≡ [] }
+        ensures goes { GoesOn self.old.bank self.new.bank }
+    {
+        self.close_pipe(0);
+        self.close_others();
+    }
+
+    /// All endpoints but endpoint 0.
+    pub(crate) fn close_others(&mut self)
+        requires spare { 6 ≤ self.old.bank.spare }
+        requires still { self.old.bank.due ≡ [] }
+        ensures joint { joint self.new ≡ with_table (joint self.old) (others_closed self.old.bank.table) }
+        ensures spare { self.old.bank.spare ≤ self.new.bank.spare + 6 }
+        ensures still { self.new.bank.due ≡ [] }
+        ensures goes { GoesOn self.old.bank self.new.bank }
+    {
+        self.close_pipe(1);
+        self.close_pipe(2);
+        self.close_pipe(3);
+    }
+
+    fn clear_interrupts(&mut self, x: u8)
+        requires known { x ≤ 3 }
+        requires spare { 2 ≤ self.old.bank.spare }
+        requires still { self.old.bank.due ≡ [] }
+        ensures joint { joint self.new ≡ with_table (joint self.old) (interrupts_cleared self.old.bank.table x) }
+        ensures spare { self.old.bank.spare ≤ self.new.bank.spare + 2 }
+        ensures still { self.new.bank.due ≡ [] }
+        ensures goes { GoesOn self.old.bank self.new.bank }
+    {
+        self.clear_in_interrupts(x, ALL_IN_INTERRUPTS);
+        self.clear_out_interrupts(x, ALL_OUT_INTERRUPTS);
+    }
+
+    #[tactic(auto, unfolding(device_driver_relation::specs::Run::all_cleared))]
+    fn clear_all(&mut self)
+        requires spare { 8 ≤ self.old.bank.spare }
+        requires still { self.old.bank.due ≡ [] }
+        ensures joint { joint self.new ≡ with_table (joint self.old) (all_cleared self.old.bank.table) }
+        ensures spare { self.old.bank.spare ≤ self.new.bank.spare + 8 }
+        ensures still { self.new.bank.due ≡ [] }
+        ensures goes { GoesOn self.old.bank self.new.bank }
+    {
+        self.clear_interrupts(0);
+        self.clear_interrupts(1);
+        self.clear_interrupts(2);
+        self.clear_interrupts(3);
+    }
+
+    /// The receive FIFO is popped, and no word read.
+    #[tactic(auto, using(crate::proofs::Loops::steps))]
+    fn pop_all(&mut self)
+        requires spare { 8 ≤ self.old.bank.spare }
+        requires still { self.old.bank.due ≡ [] }
+        ensures joint { joint self.new ≡ with_table (joint self.old) (popped_all 8 self.old.bank.table) }
+        ensures spare { self.old.bank.spare ≤ self.new.bank.spare + 8 }
+        ensures still { self.new.bank.due ≡ [] }
+        ensures goes { GoesOn self.old.bank self.new.bank }
+    {
+        for _ in 0..MOST_ENTRIES {
+            if self.pop() == 0 {
+                return;
+            }
+        }
+    }
+}

@@ -1,0 +1,135 @@
+//! Packets for the host on endpoint 0.
+ghost use Rattle.std.specs.Prelude.{◌≡◌, ◌+◌, ◌≤◌, [], length};
+ghost use Rattle.dwc2_regs.specs.Register.{dieptsiz, diepctl, fifo};
+ghost use Rattle.dwc2_fifo.specs.Words.{words_of};
+ghost use Rattle.controller_table.specs.Write.{after_write};
+ghost use Rattle.device_driver_relation.specs.Relation.{one_packet};
+ghost use Rattle.device_driver_relation.specs.Run.{with_table, words_written, packet_loaded, out_armed, packet_ready, waiting_loaded, loaded_from};
+ghost use Rattle.dwc2_device.specs.Driver.{joint, GoesOn};
+
+use crate::DevPort;
+use crate::words::{CNAK, CNAK_EPENA, SNAK_EPENA, XFRC};
+use device_driver_relation::{Heard, Ready};
+use dwc2_access::Regs;
+use dwc2_regs::{DIEPTSIZ0, fifo_window, pack_word};
+use std::mem;
+use usb_packet::Packet;
+
+/// DIEPTSIZ0: a count of one packet.
+const ONE_PACKET: u32 = 1 << 19;
+
+impl<R: Regs + Drop> DevPort<R> {
+    /// Loads the packet that waits, where one does.
+    pub(crate) fn load_waiting(&mut self)
+        requires spare { 21 ≤ self.old.bank.spare }
+        requires still { self.old.bank.due ≡ [] }
+        ensures joint { joint self.new ≡ waiting_loaded (joint self.old) }
+        ensures spare { self.old.bank.spare ≤ self.new.bank.spare + 21 }
+        ensures still { self.new.bank.due ≡ [] }
+        ensures goes { GoesOn self.old.bank self.new.bank }
+    {
+        match mem::replace(&mut self.side, Ready::Loaded) {
+            Ready::Wait { packet, last } => self.load(&packet, last),
+            Ready::Off => self.side = Ready::Off,
+            Ready::Loaded => self.side = Ready::Loaded,
+            Ready::Last => self.side = Ready::Last,
+            Ready::Armed => self.side = Ready::Armed,
+            Ready::Stall => self.side = Ready::Stall,
+        }
+    }
+
+    /// Loads a packet, and arms the status stage with the last one of its data (USB 2.0, 8.5.3.3).
+    fn load(&mut self, packet: &Packet, last: bool)
+        requires spare { 21 ≤ self.old.bank.spare }
+        requires still { self.old.bank.due ≡ [] }
+        ensures joint { joint self.new ≡ packet_ready (joint self.old) packet.now last }
+        ensures spare { self.old.bank.spare ≤ self.new.bank.spare + 21 }
+        ensures still { self.new.bank.due ≡ [] }
+        ensures goes { GoesOn self.old.bank self.new.bank }
+    {
+        self.write_packet(packet.bytes());
+        if last {
+            self.arm_out();
+            self.side = Ready::Last;
+        } else {
+            self.side = Ready::Loaded;
+        }
+    }
+
+    /// Its size, SNAK and EPENA, its words; then XFRC is cleared, and last of all the NAK ends.
+    fn write_packet(&mut self, packet: &[u8])
+        requires few { length packet.now ≤ 64 }
+        requires spare { 20 ≤ self.old.bank.spare }
+        requires still { self.old.bank.due ≡ [] }
+        ensures joint { joint self.new ≡ with_table (joint self.old) (packet_loaded self.old.bank.table packet.now) }
+        ensures spare { self.old.bank.spare ≤ self.new.bank.spare + 20 }
+        ensures still { self.new.bank.due ≡ [] }
+        ensures goes { GoesOn self.old.bank self.new.bank }
+    {
+        self.write_size(packet.len() as u32);
+        self.write_in_control(0, SNAK_EPENA);
+        self.write_words(packet);
+        self.clear_in_interrupts(0, XFRC);
+        self.write_in_control(0, CNAK);
+    }
+
+    fn write_size(&mut self, bytes: u32)
+        requires few { bytes ≤ 64 }
+        requires spare { 1 ≤ self.old.bank.spare }
+        requires still { self.old.bank.due ≡ [] }
+        ensures joint { joint self.new ≡ with_table (joint self.old) (after_write self.old.bank.table (dieptsiz 0) (one_packet bytes)) }
+        ensures spare { self.old.bank.spare ≤ self.new.bank.spare + 1 }
+        ensures still { self.new.bank.due ≡ [] }
+        ensures goes { GoesOn self.old.bank self.new.bank }
+    {
+        self.write(DIEPTSIZ0, ONE_PACKET + bytes);
+    }
+
+    /// The words of a packet, four bytes each.
+    #[tactic(auto, using(crate::proofs::Chunks::chunks))]
+    fn write_words(&mut self, packet: &[u8])
+        requires few { length packet.now ≤ 64 }
+        requires spare { 16 ≤ self.old.bank.spare }
+        requires still { self.old.bank.due ≡ [] }
+        ensures joint { joint self.new ≡ with_table (joint self.old) (words_written self.old.bank.table (words_of packet.now)) }
+        ensures spare { self.old.bank.spare ≤ self.new.bank.spare + 16 }
+        ensures still { self.new.bank.due ≡ [] }
+        ensures goes { GoesOn self.old.bank self.new.bank }
+    {
+        let mut rest = packet;
+        while !rest.is_empty() {
+            let (word, behind) = rest.split_at(rest.len().min(4));
+            self.write_word(pack_word(word));
+            rest = behind;
+        }
+    }
+
+    fn write_word(&mut self, word: u32)
+        requires spare { 1 ≤ self.old.bank.spare }
+        requires still { self.old.bank.due ≡ [] }
+        ensures joint { joint self.new ≡ with_table (joint self.old) (after_write self.old.bank.table (fifo 0) word) }
+        ensures spare { self.old.bank.spare ≤ self.new.bank.spare + 1 }
+        ensures still { self.new.bank.due ≡ [] }
+        ensures goes { GoesOn self.old.bank self.new.bank }
+    {
+        self.write(fifo_window(0), word);
+    }
+
+    /// Endpoint 0 is enabled for a packet from the host. Where one came since the last SETUP it answers NAK: each one that
+    /// comes is that packet again (USB 2.0, 8.6.4).
+    pub(crate) fn arm_out(&mut self)
+        requires spare { 1 ≤ self.old.bank.spare }
+        requires still { self.old.bank.due ≡ [] }
+        ensures joint { joint self.new ≡ with_table (joint self.old) (out_armed self.old.bank.table self.old.software.heard) }
+        ensures spare { self.old.bank.spare ≤ self.new.bank.spare + 1 }
+        ensures still { self.new.bank.due ≡ [] }
+        ensures goes { GoesOn self.old.bank self.new.bank }
+    {
+        let word = match self.heard {
+            Heard::Packet => SNAK_EPENA,
+            Heard::Nothing => CNAK_EPENA,
+            Heard::Setup => CNAK_EPENA,
+        };
+        self.write_out_control(0, word);
+    }
+}
