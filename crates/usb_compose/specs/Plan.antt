@@ -1,9 +1,7 @@
 -- What lies in the receive FIFO at most: three SETUPs, and one packet of endpoint 0 and of each OUT endpoint of a set.
-use Rattle.std.specs.Prelude.{ℕ, ◌+◌, ◌*◌, ◌≤◌, nat_lt, ◌==◌, Bool, List, [], ◌∷◌, map, filter}
-use Rattle.std.specs.List.{IsDistinct}
+use Rattle.std.specs.Prelude.{ℕ, ◌+◌, ◌*◌, nat_lt, Bool, List, [], ◌∷◌, filter}
 use Rattle.dwc2_fifo.specs.Words.{word_count}
 use Rattle.usb_descriptor.specs.declared.endpoint.Endpoint.{Endpoint}
-use Rattle.dwc2_regs.specs.declared.access.Profile.{Profile}
 
 -- bit 7 of an address is 0 for OUT (USB 2.0, 9.6.6)
 abbrev pub is_out : Endpoint → Bool
@@ -20,18 +18,6 @@ setup_words = 3 * packet_words 8
 abbrev pub words_for : List Endpoint → ℕ
 words_for [] = 0
 words_for (endpoint ∷ endpoints) = packet_words endpoint.size + words_for endpoints
-
--- each has a number of the controller, and packets of at most 64 bytes
-abbrev pub EachServed : Profile → List Endpoint → Type 0
-EachServed profile [] = Unit {0}
-EachServed profile (endpoint ∷ outs) =
-    (1 ≤ endpoint.addr) × (endpoint.addr ≤ profile.out_eps) × (endpoint.size ≤ 64) × EachServed profile outs
-
--- so do the OUT endpoints of an accepted set, by its rules on addresses, packets and the highest number, and no two have one
--- number
-pub record AreServed (profile : Profile) (outs : List Endpoint) : Type 0 where
-  pub distinct : IsDistinct (λ a b. a == b) (map (λ endpoint. endpoint.addr) outs)
-  pub each : EachServed profile outs
 
 -- all of it: endpoint 0 has packets of 64 bytes
 abbrev pub most_words : List Endpoint → ℕ

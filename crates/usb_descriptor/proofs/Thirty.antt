@@ -1,7 +1,7 @@
 -- A set whose endpoints have good addresses has at most thirty: each number from 1 to 15 once in each direction.
 use Rattle.std.proofs.Common.{◌≡◌, ℕ, zero, suc, ◌+◌, ◌/◌, ◌%◌, ◌<◌, ◌≤◌, List, [], ◌∷◌, ◌++◌, Bool, true, false, not, ◌&&◌, ◌||◌, cond, eqb, ltb, length, map, drop, get_or, Option, Some, None, IfNone, refl, ap, sym, ◌∙◌, subst, arith, append_assoc, append-nil, length-append, inl, inr, Fits, w8}
 use Rattle.std.specs.Prelude.{filter}
-use Rattle.std.specs.List.{list_any, IsDistinct}
+use Rattle.std.specs.List.{list_any, IsDistinct, AllByRecursion}
 use Rattle.std.specs.Cmp.{nat_eq_equiv}
 use Rattle.std.proofs.lemmas.Bool.{agree_below_at, cases_Bool, or_parts, and_from, not-false}
 use Rattle.std.proofs.lemmas.Bool.Decides.{nat_tests}
@@ -21,16 +21,15 @@ use Rattle.usb_descriptor.specs.Set.{endpoint_of, endpoints_in}
 use Rattle.usb_descriptor.specs.Rules.{is_endpoint_at, has_wrong_address, breaks, first_from, first_broken}
 use Rattle.usb_descriptor.specs.Verdict.{fault_at, earlier, rule_fault, rules, first_fault}
 
-abbrev addresses : List Descriptor → List ℕ
+abbrev pub addresses : List Descriptor → List ℕ
 addresses ds = map address (filter is_endpoint ds)
 
 -- bits 6 to 4 are 0, and the number isn't
-abbrev valid : ℕ → Bool
+abbrev pub valid : ℕ → Bool
 valid a = eqb (a / 16 % 8) 0 && not (eqb (a % 16) 0)
 
-abbrev Valid : List ℕ → Type 0
-Valid [] = Unit {0}
-Valid (a ∷ xs) = (valid a ≡ true) × Valid xs
+abbrev pub Valid : List ℕ → Type 0
+Valid xs = AllByRecursion (λ a. valid a ≡ true) xs
 
 abbrev thirty : List ℕ
 thirty = 1 ∷ 2 ∷ 3 ∷ 4 ∷ 5 ∷ 6 ∷ 7 ∷ 8 ∷ 9 ∷ 10 ∷ 11 ∷ 12 ∷ 13 ∷ 14 ∷ 15
@@ -56,7 +55,7 @@ cond_none true x o h = absurd (cc)
 cond_none false x o h = (refl, h)
 
 -- the bytes of a row are bytes
-abbrev Small : List Descriptor → Type 0
+abbrev pub Small : List Descriptor → Type 0
 Small [] = Unit {0}
 Small (d ∷ ds) = (address d < 256) × Small ds
 
@@ -68,7 +67,7 @@ byte_small config at k h =
       | inr e ↦ rw e (omega arith)
     ]
 
-row_small : (config : List ℕ) → ((i : ℕ) → Fits w8 (get_or config i 0)) → (more at : ℕ) → Small (row_from more at config)
+pub row_small : (config : List ℕ) → ((i : ℕ) → Fits w8 (get_or config i 0)) → (more at : ℕ) → Small (row_from more at config)
 row_small config h zero at = tt
 row_small config h (suc more) at =
     elim (cases_Bool (begins_at config at)) [
@@ -76,7 +75,7 @@ row_small config h (suc more) at =
       | inr e ↦ rw e tt
     ]
 
-left_small : (row : List Descriptor) (before : ℕ) → Small row → Small (left_after before row)
+pub left_small : (row : List Descriptor) (before : ℕ) → Small row → Small (left_after before row)
 left_small [] before h = tt
 left_small (d ∷ ds) before h =
     elim (cases_Bool (eqb (setting_at before d) 0)) [
@@ -101,9 +100,9 @@ each_among (d ∷ ds) s v q h =
       | inr e ↦ each_among ds s.1 (rw e at v) q (rw e at h)
     ]
 
-valid_more : (xs : List ℕ) (a : ℕ) → Valid xs → valid a ≡ true → Valid (xs ++ a ∷ [])
-valid_more [] a v h = (h, tt)
-valid_more (x ∷ xs) a v h = (v.0, valid_more xs a v.1 h)
+pub all_more : {X : Type 0} (P : X → Type 0) (xs : List X) (x : X) → AllByRecursion P xs → P x → AllByRecursion P (xs ++ x ∷ [])
+all_more P [] x all h = (h, tt)
+all_more P (y ∷ ys) x all h = (all.0, all_more P ys x all.1 h)
 
 -- an address that no endpoint before has
 any_same : (a : ℕ) (ds : List Descriptor) → list_any (is_endpoint_at a) ds ≡ list_any (eqb a) (addresses ds)
@@ -117,7 +116,7 @@ any_same a (d ∷ ds) =
 addresses-append : (xs ys : List Descriptor) → addresses (xs ++ ys) ≡ addresses xs ++ addresses ys
 addresses-append xs ys = ap (map address) (filter-append is_endpoint xs ys) ∙ map-append address (filter is_endpoint xs) (filter is_endpoint ys)
 
-abbrev Good : List ℕ → Type 0
+abbrev pub Good : List ℕ → Type 0
 Good xs = IsDistinct eqb xs × Valid xs
 
 one_more : (before : List Descriptor) (d : Descriptor) → has_wrong_address before d ≡ false → Good (addresses before) → Good (addresses (before ++ d ∷ []))
@@ -128,39 +127,43 @@ one_more before d h g =
           let ok : valid (address d) ≡ true = and_from _ _ (not-false _ p.0) (ap not p.1) in
           let new : list_any (eqb (address d)) (addresses before) ≡ false = sym (any_same (address d) before) ∙ p.2 in
           let same : addresses (before ++ d ∷ []) ≡ addresses before ++ address d ∷ [] = addresses-append before (d ∷ []) ∙ ap (λ xs. addresses before ++ xs) (rw e refl) in
-          subst Good (sym same) (IsDistinct-push nat_eq_equiv (addresses before) (address d) g.0 new, valid_more (addresses before) (address d) g.1 ok)
+          subst Good (sym same) (IsDistinct-push nat_eq_equiv (addresses before) (address d) g.0 new, all_more (λ a. valid a ≡ true) (addresses before) (address d) g.1 ok)
       | inr e ↦
           let same : addresses (before ++ d ∷ []) ≡ addresses before = addresses-append before (d ∷ []) ∙ ap (λ xs. addresses before ++ xs) (rw e refl) ∙ append-nil (addresses before) in
           subst Good (sym same) g
     ]
 
-all_good : (limits : EpLimits) (row before after : List Descriptor) → Good (addresses before)
-    → first_from (breaks limits rule.Addresses row) before after ≡ None → Good (addresses (before ++ after))
-all_good limits row before [] g h = subst (λ ds. Good (addresses ds)) (sym (append-nil before)) g
-all_good limits row before (d ∷ after) g h =
-    let p = cond_none (has_wrong_address before d) (d.at) (first_from (breaks limits rule.Addresses row) (before ++ d ∷ []) after) h in
-    subst (λ ds. Good (addresses ds)) (append_assoc before (d ∷ []) after)
-    (all_good limits row (before ++ d ∷ []) after (one_more before d p.0 g) p.1)
+-- what each descriptor keeps that doesn't break a rule holds of a row that doesn't
+pub kept : (test : List Descriptor → Descriptor → List Descriptor → Bool) (P : List Descriptor → Type 0)
+    → ((before : List Descriptor) (d : Descriptor) (after : List Descriptor) → test before d after ≡ false → P before → P (before ++ d ∷ []))
+    → (before after : List Descriptor) → P before → first_from test before after ≡ None → P (before ++ after)
+kept test P more before [] g h = subst P (sym (append-nil before)) g
+kept test P more before (d ∷ after) g h =
+    let p = cond_none (test before d after) (d.at) (first_from test (before ++ d ∷ []) after) h in
+    subst P (append_assoc before (d ∷ []) after)
+    (kept test P more (before ++ d ∷ []) after (more before d after p.0 g) p.1)
 
-few : (limits : EpLimits) (row : List Descriptor) → Small row → first_broken limits rule.Addresses row ≡ None → length (filter is_endpoint row) ≤ 30
+pub all_good : (limits : EpLimits) (row : List Descriptor) → first_broken limits rule.Addresses row ≡ None → Good (addresses row)
 unfolding IsDistinct
-few limits row s h =
-    let g = all_good limits row [] row (tt, tt) h in
+all_good limits row h =
+    kept (breaks limits rule.Addresses row) (λ ds. Good (addresses ds)) (λ before d after. one_more before d) [] row (tt, tt) h
+
+pub few : (row : List Descriptor) → Small row → Good (addresses row) → length (filter is_endpoint row) ≤ 30
+unfolding IsDistinct
+few row s g =
     let n = length-le_from_is_member nat_eq_equiv (addresses row) thirty g.0 (each_among row s g.1) in
     subst (λ n. n ≤ 30) (length-map (filter is_endpoint row) address) n
 
-earlier_parts : (a b : Option SetFault) → earlier a b ≡ None → (a ≡ None) × (b ≡ None)
+pub earlier_parts : (a b : Option SetFault) → earlier a b ≡ None → (a ≡ None) × (b ≡ None)
 earlier_parts None b h = (refl, h)
 earlier_parts (Some f) b h = absurd (cc)
 
-fourth : (f : Rule → Option SetFault) (a b c d : Rule) (rest : List Rule) → first_fault f (a ∷ b ∷ c ∷ d ∷ rest) ≡ None → f d ≡ None
-fourth f a b c d rest h =
-    let x = earlier_parts (f a) (first_fault f (b ∷ c ∷ d ∷ rest)) h in
-    let y = earlier_parts (f b) (first_fault f (c ∷ d ∷ rest)) x.1 in
-    let z = earlier_parts (f c) (first_fault f (d ∷ rest)) y.1 in
-    (earlier_parts (f d) (first_fault f rest) z.1).0
+-- where none of some rules gives a fault, no one of them does
+pub no_fault : (f : Rule → Option SetFault) (rs : List Rule) → first_fault f rs ≡ None → AllByRecursion (λ r. f r ≡ None) rs
+no_fault f [] h = tt
+no_fault f (r ∷ rs) h = let p = earlier_parts (f r) (first_fault f rs) h in (p.0, no_fault f rs p.1)
 
-place_none : (rule : ℕ) (place : Option ℕ) → fault_at rule place ≡ None → place ≡ None
+pub place_none : (rule : ℕ) (place : Option ℕ) → fault_at rule place ≡ None → place ≡ None
 place_none rule None h = refl
 place_none rule (Some at) h = absurd (cc)
 
@@ -170,9 +173,9 @@ pub few_endpoints : (config : List ℕ) (limits : EpLimits) (row left : List Des
 few_endpoints config limits row left claimed reports (Some f) small er el e = tt
 few_endpoints config limits row left claimed reports None small er el e =
     let f = rule_fault limits row left claimed reports in
-    let n = place_none 11 (first_broken limits rule.Addresses left) (fourth f rule.Sizes rule.Numbers rule.Counts rule.Addresses (drop 4 rules) (sym e)) in
+    let n = place_none 11 (first_broken limits rule.Addresses left) ((no_fault f rules (sym e)).1.1.1.0) in
     let same : left ≡ left_of (row_of config) = el ∙ ap left_of er in
-    few limits (left_of (row_of config)) (left_small (row_of config) 0 (row_small config small (length config) 9)) (rw same at n)
+    few (left_of (row_of config)) (left_small (row_of config) 0 (row_small config small (length config) 9)) (all_good limits (left_of (row_of config)) (rw same at n))
 
 -- there is room for one more endpoint while one is left
 pub room : (row : List Descriptor) (items : List Endpoint) (i : ℕ) (d : Descriptor) → i < length row → is_endpoint (get_or row i d) ≡ true

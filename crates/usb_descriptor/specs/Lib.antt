@@ -1,4 +1,5 @@
 pub mod Rules
 pub mod Verdict
 pub mod Set
+pub mod Served
 pub mod Strings

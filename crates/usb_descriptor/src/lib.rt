@@ -5,6 +5,7 @@
 mod broken;
 mod endpoint;
 mod group;
+pub mod laws;
 mod limits;
 mod rule;
 mod set;
