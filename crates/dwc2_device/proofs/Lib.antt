@@ -1,4 +1,5 @@
 pub mod Goes
+pub mod Moved
 pub mod Loops
 pub mod Chunks
 pub mod Sound

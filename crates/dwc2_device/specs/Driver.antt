@@ -1,6 +1,7 @@
 -- The driver with its controller, and how the controller moves.
-use Rattle.std.specs.Prelude.{◌≡◌, ℕ}
+use Rattle.std.specs.Prelude.{◌≡◌, ◌≤◌, ℕ}
 use Rattle.controller_table.specs.Bank.{Bank, bank_read, bank_write}
+use Rattle.dwc2_access.specs.Registers.{IsRegister}
 use Rattle.device_driver_relation.specs.Software.{Software, Joint}
 
 pub record Driver : Type 0 where
@@ -10,11 +11,11 @@ pub record Driver : Type 0 where
 abbrev pub joint : Driver → Joint
 joint d = record { table = d.bank.table; software = d.software }
 
--- a bank comes from another by accesses
+-- a bank comes from another by accesses to registers, each of which was allowed
 pub data Moves : Bank → Bank → Type 0 where
   stays : {a : Bank} → Moves a a
-  reads : {a b c : Bank} → Moves a b → (off : ℕ) → c ≡ bank_read b off → Moves a c
-  writes : {a b c : Bank} → Moves a b → (off word : ℕ) → c ≡ bank_write b off word → Moves a c
+  reads : {a b c : Bank} → Moves a b → (off : ℕ) → IsRegister off → 1 ≤ b.spare → c ≡ bank_read b off → Moves a c
+  writes : {a b c : Bank} → Moves a b → (off word : ℕ) → IsRegister off → 1 ≤ b.spare → c ≡ bank_write b off word → Moves a c
 
 -- what moved to the old bank moved to the new one
 abbrev pub GoesOn : Bank → Bank → Type 0

@@ -68,6 +68,13 @@ impl<R: Regs + Drop> DevPort<R> {
         &mut self.regs
     }
 
+    /// The controller, to look at.
+    pub fn controller(&self) -> &R
+        ensures { R.bank result.now ≡ self.now.bank }
+    {
+        &self.regs
+    }
+
     #[tactic(auto, using(crate::proofs::Goes::read_goes_on))]
     pub(crate) fn read(&mut self, off: u16) -> u32
         requires known { IsRegister off }

@@ -56,6 +56,13 @@ impl DevCore {
         self.controller.bus(event)
     }
 
+    /// The accesses since the last `begin`, the oldest first, at most 400.
+    pub fn accesses(&self) -> &[Access]
+        ensures { result.now ≡ self.now.log }
+    {
+        self.accesses.as_slice()
+    }
+
     fn log(&mut self, access: Access)
         requires { 1 ≤ self.old.spare }
         ensures { self.new ≡ record self.old { spare = self.old.spare - 1; log = self.old.log ++ access ∷ []; made = counted self.old.made } }
