@@ -47,6 +47,11 @@ eight_digits n =
     let h : n % 256 % 16 ≡ n % 16 = omega arith in
     rw (a, b, c, d, e, f, g, h) refl
 
+-- the digits of an offset and of a word, from their bytes
+pub digits_told : (off value : ℕ) → 32 ∷ (hex (to_be_bytes w16 off) ++ 32 ∷ hex (to_be_bytes w32 value)) ≡ 32 ∷ (digits 4 off ++ 32 ∷ digits 8 value)
+digits_told off value =
+    ap (λ t. 32 ∷ (t ++ 32 ∷ hex (to_be_bytes w32 value))) (four_digits off) ∙ ap (λ t. 32 ∷ (digits 4 off ++ 32 ∷ t)) (eight_digits value)
+
 digit_is_seen : (n : ℕ) → n < 16 → is_seen (hex_digit n) ≡ true
 digit_is_seen n h = grind (arith, nat_tests)
 
@@ -146,13 +151,13 @@ access_told a b s t ha hb e =
     (same_access a b marks.1 off value, marks.0)
 
 -- the first two bytes of a register line: `r` or `w` with a space, or after `d` or `h`
-abbrev is_way : ℕ → Bool
+abbrev pub is_way : ℕ → Bool
 is_way b = eqb b 114 || eqb b 119
 
-abbrev is_side : ℕ → Bool
+abbrev pub is_side : ℕ → Bool
 is_side b = eqb b 100 || eqb b 104
 
-abbrev begins_an_access : List ℕ → Bool
+abbrev pub begins_an_access : List ℕ → Bool
 begins_an_access [] = false
 begins_an_access (a ∷ []) = false
 begins_an_access (a ∷ b ∷ rest) = (is_way a && eqb b 32) || (is_side a && is_way b)
@@ -212,7 +217,7 @@ reply_begins reply.Closed = refl
 reply_begins (reply.Core addr configured) = refl
 reply_begins (reply.Host word) = host_begins word
 
-answer_begins : (a : Answer) → begins_an_access (answer_text a) ≡ false
+pub answer_begins : (a : Answer) → begins_an_access (answer_text a) ≡ false
 answer_begins (answer.Bus a) = bus_begins a
 answer_begins (answer.Reply r) = reply_begins r
 

@@ -12,7 +12,7 @@ mod rules;
 mod show;
 mod show_call;
 
-pub use access::{Side, access_text, register_lines};
+pub use access::{MOST_ACCESS, Side, access_text, push_access_line, register_lines};
 pub use call::DevCall;
 pub use head::HeadLine;
 pub use laws::{one_spelling, texts_keep_rules};

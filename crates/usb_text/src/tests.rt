@@ -3,7 +3,8 @@ ghost use Rattle.usb_text.specs.Call.{IsCall};
 
 use crate::{
     Answer, DevCall, DevLine, Line, Mode, Place, Side, access_text, answer_text, call_text,
-    line_text, lowest_rule, push_bus_line, push_reply_line, read_head, read_line, read_schedule,
+    line_text, lowest_rule, push_access_line, push_bus_line, push_reply_line, read_head, read_line,
+    read_schedule,
 };
 use arrayvec::ArrayVec;
 use dwc2_regs::Access;
@@ -387,4 +388,16 @@ fn accesses(rt: HostRuntime) {
         let access = Access { write, off, value };
         assert_eq!(rt; access_text(&access, side).as_slice(), text.as_bytes());
     }
+    let read = Access {
+        write: false,
+        off: 0x14,
+        value: 4096,
+    };
+    let mut lines: ArrayVec<u8, 64> = ArrayVec::new();
+    push_access_line(&mut lines, &read, Side::Plain);
+    push_access_line(&mut lines, &read, Side::Host);
+    assert_eq!(rt;
+        lines.as_slice(),
+        b"r 0014 00001000\nhr 0014 00001000\n".as_slice()
+    );
 }

@@ -6,7 +6,7 @@ mod print;
 mod words;
 
 pub use field::{is_numeral, number, read_hex, small_number, value};
-pub use print::{push_bytes, push_hex, push_number, push_text, push_wide, push_word};
+pub use print::{hex_digit, push_bytes, push_hex, push_number, push_text, push_wide, push_word};
 pub use words::Words;
 
 #[cfg(test)]

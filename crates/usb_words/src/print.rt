@@ -40,7 +40,8 @@ fn push_pairs<const N: usize>(out: &mut ArrayVec<u8, N>, bytes: &[u8])
     }
 }
 
-fn hex_digit(n: u8) -> u8
+/// A hexadecimal digit, in lower case.
+pub fn hex_digit(n: u8) -> u8
     requires { n < 16 }
     ensures { result ≡ hex_digit n }
 {
