@@ -63,7 +63,13 @@ text-append : (xs ys : List Answer) → flat_map answer_line (xs ++ ys) ≡ flat
 text-append [] ys = refl
 text-append (x ∷ xs) ys = ap (λ t. answer_line x ++ t) (text-append xs ys) ∙ sym (append_assoc (answer_line x) (flat_map answer_line xs) (flat_map answer_line ys))
 
--- one line more adds the line of its answer
+-- one line more adds its answer
+pub answers-more : (set : Set) (lines : List DevLine) (line : DevLine)
+    → answers set (lines ++ line ∷ []) ≡ answers set lines ++ core_answer (core_state set lines) line ∷ []
+answers-more set lines line =
+    answers_after-more set [] lines line ∙ ap (λ a. answers set lines ++ a ∷ []) (answer_is_core set lines line)
+
+-- and the line of its answer
 pub device_text-more : (set : Set) (lines : List DevLine) (line : DevLine)
     → device_text set (lines ++ line ∷ []) ≡ device_text set lines ++ answer_line (core_answer (core_state set lines) line)
 device_text-more set lines line =

@@ -1,3 +1,4 @@
 pub mod Answers
+pub mod Traces
 pub mod Closed
 pub mod Outcomes

@@ -1,3 +1,4 @@
 pub mod Schedule
+pub mod Trace
 pub mod Job
 pub mod Outcome

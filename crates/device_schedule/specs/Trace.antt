@@ -1,0 +1,84 @@
+-- The accesses to registers of a device's run, line by line, and their text among the answers.
+use Rattle.std.specs.Prelude.{◌≡◌, ◌≤◌, ℕ, List, [], ◌∷◌, ◌++◌, length, map, Bool, false, ◌==◌, ◌&&◌, ◌||◌}
+use Rattle.std.specs.List.{flat_map}
+use Rattle.dwc2_regs.specs.declared.access.Access.{Access}
+use Rattle.controller_table.specs.State.{Table, opened}
+use Rattle.controller_table.specs.Bank.{most_accesses}
+use Rattle.controller_table.specs.Bus as table
+use Rattle.dwc2_access.specs.Run.{AreSteps, accesses_after}
+use Rattle.usb_descriptor.specs.Set.{Set}
+use Rattle.usb_text.specs.declared.line.DevLine.{DevLine}
+use Rattle.usb_text.specs.declared.line.DevLine.TheVariants.{Bus, Irq, Task, Call}
+use Rattle.usb_text.specs.declared.line.Answer.{Answer}
+use Rattle.usb_text.specs.declared.line.Answer.TheVariants as answer
+use Rattle.usb_text.specs.declared.access.Side.TheVariants.{Plain}
+use Rattle.usb_text.specs.Line.{answer_text, newline}
+use Rattle.usb_text.specs.Access.{access_text}
+use Rattle.device_schedule.specs.Schedule.{answers}
+
+-- a line of a schedule, the accesses made for it, the oldest first, and its answer
+pub record Turn : Type 0 where
+  pub line : DevLine
+  pub accesses : List Access
+  pub answer : Answer
+
+-- the accesses for a line are steps of the controller, at most 400
+abbrev pub AreWork : Table → List Access → Type 0
+AreWork t accesses = AreSteps t accesses × (length accesses ≤ most_accesses)
+
+-- a line of the bus has no accesses, and its answer is what the controller's bus event gives
+abbrev pub IsTurn : Table → DevLine → List Access → Answer → Type 0
+IsTurn t (Bus e) accesses a = (accesses ≡ []) × (a ≡ answer.Bus (table.bus_answer t e))
+IsTurn t Irq accesses a = AreWork t accesses
+IsTurn t Task accesses a = AreWork t accesses
+IsTurn t (Call call) accesses a = AreWork t accesses
+
+-- the controller after a line
+abbrev pub after_turn : Table → DevLine → List Access → Table
+after_turn t (Bus e) accesses = table.after_bus t e
+after_turn t Irq accesses = accesses_after t accesses
+after_turn t Task accesses = accesses_after t accesses
+after_turn t (Call call) accesses = accesses_after t accesses
+
+-- and after many
+abbrev pub after_turns : Table → List Turn → Table
+after_turns t [] = t
+after_turns t (turn ∷ turns) = after_turns (after_turn t turn.line turn.accesses) turns
+
+-- lines one after another, each from the controller that those before it left
+abbrev pub AreTurns : Table → List Turn → Type 0
+AreTurns t [] = Unit {0}
+AreTurns t (turn ∷ turns) = IsTurn t turn.line turn.accesses turn.answer × AreTurns (after_turn t turn.line turn.accesses) turns
+
+-- the lines of a schedule with their answers, and with accesses that are a run of the controller from its opened state on
+pub record IsTrace (set : Set) (schedule : List DevLine) (turns : List Turn) : Type 0 where
+  pub lines : map (λ turn. turn.line) turns ≡ schedule
+  pub answers : map (λ turn. turn.answer) turns ≡ answers set schedule
+  pub run : AreTurns opened turns
+
+-- The text: a line for each access, and behind them that of the answer.
+
+abbrev pub register_text : Access → List ℕ
+register_text access = access_text access Plain
+
+abbrev pub turn_lines : Turn → List (List ℕ)
+turn_lines turn = map register_text turn.accesses ++ answer_text turn.answer ∷ []
+
+abbrev pub trace_lines : List Turn → List (List ℕ)
+trace_lines turns = flat_map turn_lines turns
+
+abbrev pub ended : List ℕ → List ℕ
+ended line = line ++ newline ∷ []
+
+abbrev pub trace_text : List Turn → List ℕ
+trace_text turns = flat_map ended (trace_lines turns)
+
+-- what one turn adds to it
+abbrev pub turn_text : Turn → List ℕ
+turn_text turn = flat_map ended (turn_lines turn)
+
+-- whether a line tells an access: `r` or `w` is its first word
+abbrev pub tells_access : List ℕ → Bool
+tells_access (a ∷ b ∷ rest) = ((a == 114) || (a == 119)) && (b == 32)
+tells_access (a ∷ []) = false
+tells_access [] = false
