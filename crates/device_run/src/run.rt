@@ -1,6 +1,12 @@
 ghost use Rattle.std.specs.Prelude.{◌≡◌, IfOk};
+ghost use Rattle.usb_descriptor.specs.Set.{IsAccepted};
+ghost use Rattle.controller_table.specs.State.{opened};
 ghost use Rattle.device_machine.specs.Core.{start};
+ghost use Rattle.device_schedule.specs.Job.{limits};
 
+use dwc2_access::Regs;
+use dwc2_devmodel::DevCore;
+use dwc2_regs::{Access, FS4};
 use std::alloc::{AllocError, Global};
 use std::marker::Model;
 use usb_descriptor::DescSet;
@@ -8,39 +14,47 @@ use usb_packet::{BusAnswer, BusEvent};
 use usb_pipe::Reply;
 use usb_text::{Answer, DevCall, DevLine};
 use usbd_core::DevStack;
+use usbd_core::laws::{bus_keeps, event_fits};
 
-/// A device between two lines of its schedule.
+/// A device between two lines of its schedule: its software over the controller, which agree.
 #[derive(Drop)]
 pub struct DeviceRun {
-    stack: DevStack,
+    stack: DevStack<DevCore>,
 }
 
 impl Model for DeviceRun {
-    ghost use Rattle.usbd_core.specs.Device.{Device};
+    ghost use Rattle.std.specs.Prelude.{◌≡◌, []};
+    ghost use Rattle.usbd_core.specs.Device.{core_of, Agrees};
+    ghost use Rattle.device_run.specs.Run.{Run};
 
-    ghost Value = { Device };
+    ghost Value = { Run };
 
-    ghost view = { λ r. r.stack };
+    ghost view = { λ r. record { set = r.stack.set; core = core_of r.stack; table = r.stack.port.bank.table; log = r.stack.port.bank.log } };
+
+    ghost invariant = { λ r. Agrees r.stack × (r.stack.port.bank.due ≡ []) };
 }
 
 impl DeviceRun {
-    ghost use Rattle.usbd_core.specs.Device.{Device};
-    ghost use Rattle.usb_text.specs.declared.line.DevLine.TheVariants.{Bus, Irq, Task};
-    ghost use Rattle.usb_text.specs.declared.line.Answer.TheVariants.{Bus as TheBus};
-    ghost use Rattle.device_schedule.specs.Schedule.{call_answer, core_answer, core_after};
+    ghost use Rattle.usb_text.specs.declared.line.DevLine.TheVariants.{Bus, Irq, Task, Call};
+    ghost use Rattle.usb_text.specs.declared.line.Answer.TheVariants.{Bus as TheBus, Reply as TheReply};
+    ghost use Rattle.usb_packet.specs.declared.bus.BusAnswer.TheVariants.{Done};
+    ghost use Rattle.device_run.specs.Run.{Steps};
 
-    /// A device with this set of descriptors, at its start. It is `AllocError` only where memory runs out.
+    /// A device with this set of descriptors, which has to be an accepted one, at its start, over a controller that is
+    /// opened. It is `AllocError` only where memory runs out.
     pub fn open(alloc: Global, set: DescSet) -> Result<DeviceRun, AllocError>
-        ensures { IfOk result (λ run. run ≡ record { set = set; core = start }) }
+        requires { IsAccepted set limits }
+        ensures set { IfOk result (λ run. run.set ≡ set) }
+        ensures core { IfOk result (λ run. run.core ≡ start) }
+        ensures table { IfOk result (λ run. run.table ≡ opened) }
     {
-        let stack = DevStack::open(alloc, set)?;
+        let stack = DevStack::open(alloc, DevCore::new(FS4), set, FS4)?;
         Ok(DeviceRun { stack })
     }
 
     /// One line of the schedule, and its answer.
     pub fn step(&mut self, line: &DevLine) -> Answer
-        ensures answer { result ≡ core_answer self.old.core line.now }
-        ensures after { self.new ≡ record self.old { core = core_after self.old.set self.old.core line.now } }
+        ensures { Steps self.old self.new line.now result }
     {
         match line {
             DevLine::Bus(event) => Answer::Bus(self.bus(event)),
@@ -56,33 +70,46 @@ impl DeviceRun {
         }
     }
 
+    /// The accesses of the last line, the oldest first, at most 400. A line of the bus has none.
+    pub fn trace(&self) -> &[Access]
+        ensures { result.now ≡ self.now.log }
+    {
+        self.stack.controller().accesses()
+    }
+
     /// A line of the bus, and its answer there. It and the calls for the other lines are what `step` is made of, without
     /// an `Answer`, which has room for the longest one.
     pub fn bus(&mut self, event: &BusEvent) -> BusAnswer
-        ensures answer { TheBus result ≡ core_answer self.old.core (Bus event.now) }
-        ensures after { self.new ≡ record self.old { core = core_after self.old.set self.old.core (Bus event.now) } }
+        ensures { Steps self.old self.new (Bus event.now) (TheBus result) }
     {
-        self.stack.bus(event)
+        bus_keeps();
+        event_fits(event);
+        let controller = self.stack.regs();
+        controller.begin();
+        controller.bus(event)
     }
 
     /// A handler run, which is answered `Done`.
     pub fn irq(&mut self)
-        ensures { self.new ≡ record self.old { core = core_after self.old.set self.old.core Irq } }
+        ensures { Steps self.old self.new Irq (TheBus Done) }
     {
+        self.stack.regs().begin();
         self.stack.irq();
     }
 
     /// A task run, which is answered `Done`.
     pub fn task(&mut self)
-        ensures { self.new ≡ record self.old { core = core_after self.old.set self.old.core Task } }
+        ensures { Steps self.old self.new Task (TheBus Done) }
     {
+        self.stack.regs().begin();
         self.stack.task();
     }
 
     /// What is answered to a call. No class is driven yet, so each call of one is closed.
-    pub fn reply(&self, call: &DevCall) -> Reply
-        ensures { result ≡ call_answer self.now.core call.now }
+    pub fn reply(&mut self, call: &DevCall) -> Reply
+        ensures { Steps self.old self.new (Call call.now) (TheReply result) }
     {
+        self.stack.regs().begin();
         match call {
             DevCall::State => {
                 let state = self.stack.state();

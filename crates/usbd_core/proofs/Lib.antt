@@ -1,4 +1,8 @@
-pub mod Address
+pub mod Events
 pub mod Halts
+pub mod Irq
+pub mod Notes
+pub mod Opens
 pub mod Packets
+pub mod Requests
 pub mod Whole

@@ -1,8 +1,7 @@
 -- The packets of a data stage.
-use Rattle.std.proofs.Common.{◌≡◌, ℕ, zero, suc, ◌+◌, ◌<◌, List, [], ◌∷◌, Some, length, take, min, ap, refl, arith}
+use Rattle.std.proofs.Common.{◌≡◌, ℕ, zero, suc, ◌+◌, ◌<◌, List, [], Some, length, take, min, ap, refl, arith}
 use Rattle.std.proofs.lemmas.List.{length-take, take_all}
 use Rattle.device_machine.specs.Packets.{packet_count, packet_at, data_packets}
-use Rattle.device_machine.specs.Core.{Core, Transfer, sending}
 use Rattle.usbd_core.specs.Stage.{packets_from, first_of, rest_of}
 
 -- the packets of cut data are those of the data
@@ -12,11 +11,6 @@ packets_of bytes allowed =
   where
     cut : (bytes : List ℕ) (allowed : ℕ) → length (take allowed bytes) ≡ min (length bytes) allowed
     cut bytes allowed = omega (arith, length-take allowed bytes)
-
--- a data stage begins alike whatever transfer ran before
-pub sending_anew : (core : Core) (packets : List (List ℕ)) (t : Transfer) → sending (record core { transfer = t }) packets ≡ sending core packets
-sending_anew core [] t = refl
-sending_anew core (p ∷ ps) t = refl
 
 -- the first of the packets that are left, and the others
 pub none_left : (bytes : List ℕ) (next left : ℕ) → left ≡ 0 → packets_from bytes next left ≡ []

@@ -1,13 +1,36 @@
--- A device: what it is, and its core.
-use Rattle.usb_descriptor.specs.Set.{Set}
+-- A device: its descriptors, its driver with the controller, and what its software keeps beside them; the core that they are
+-- together, and what holds of them.
+use Rattle.std.specs.Prelude.{◌≡◌, ℕ, Bool, true, false, not, List, Option, Some, None}
+use Rattle.dwc2_regs.specs.declared.access.TheConstants.{FS4}
+use Rattle.usb_descriptor.specs.declared.limits.EpLimits.{EpLimits}
+use Rattle.usb_descriptor.specs.Set.{Set, endpoints_of}
+use Rattle.usb_descriptor.specs.Served.{AreServed}
+use Rattle.usb_control.specs.declared.state.CoreState.{CoreState}
+use Rattle.device_machine.specs.declared.control.Stage.{Stage}
+use Rattle.device_machine.specs.declared.control.Stage.TheVariants.{Sent, Came}
+use Rattle.device_machine.specs.declared.control.Side.{Side}
+use Rattle.device_machine.specs.declared.control.Side.TheVariants.{Off, Wait, Loaded, Last, Armed, Stall, Finished}
+use Rattle.device_machine.specs.Bus.{Bus}
+use Rattle.device_machine.specs.Session.{opened}
 use Rattle.device_machine.specs.Core.{Core, Transfer, Idle, Sending, Ending, Addressing}
+use Rattle.device_driver_relation.specs.Relation.{IsSound, abstract}
+use Rattle.device_driver_relation.specs.Port.{Port, port_of}
+use Rattle.dwc2_device.specs.Driver.{Driver, joint}
 use Rattle.usbd_core.specs.declared.transfer.Transfer as declared
 use Rattle.usbd_core.specs.declared.transfer.Transfer.TheVariants as transfer
 
 pub record Device : Type 0 where
   -- its descriptors
   pub set : Set
-  pub core : Core
+  -- the driver with the controller
+  pub port : Driver
+  -- its address, whether a session stands, and what is halted
+  pub state : CoreState
+  -- the notes that no task has taken
+  pub finished : Option Stage
+  pub request : Option (List ℕ)
+  -- the control transfer that runs
+  pub transfer : Transfer
 
 -- the transfer that the software keeps
 abbrev pub transfer_of : declared.Transfer → Transfer
@@ -15,3 +38,93 @@ transfer_of transfer.Idle = Idle
 transfer_of (transfer.Data packets) = Sending packets
 transfer_of transfer.Status = Ending
 transfer_of (transfer.Address n) = Addressing n
+
+-- what the bus sees of it
+abbrev pub bus_of : Device → Bus
+bus_of d = abstract (joint d.port)
+
+-- the core that it is
+abbrev pub core_of : Device → Core
+core_of d = record {
+  bus = bus_of d;
+  session = d.state.configured;
+  halted = d.state.halted.items;
+  finished = d.finished;
+  request = d.request;
+  transfer = d.transfer;
+}
+
+-- the device that its driver has, with the driver's notes
+abbrev pub port_in : Device → Port
+port_in d = port_of (joint d.port)
+
+-- What holds of it between two calls.
+
+-- the driver has no note left
+pub record IsQuiet (p : Port) : Type 0 where
+  pub reset : p.reset ≡ false
+  pub finished : p.finished ≡ None
+  pub request : p.request ≡ None
+
+-- a note waits for a task
+abbrev pub has_note : Option Stage → Option (List ℕ) → Bool
+has_note None None = false
+has_note None (Some bytes) = true
+has_note (Some stage) request = true
+
+-- the address that a transfer brings with the end of its status stage (USB 2.0, 9.4.6)
+abbrev pub address_of : Transfer → Option ℕ
+address_of (Addressing n) = Some n
+address_of Idle = None
+address_of (Sending packets) = None
+address_of Ending = None
+
+-- while endpoint 0 holds something, the driver keeps that address
+abbrev pub KeepsAddress : Side → Option ℕ → Option ℕ → Type 0
+KeepsAddress Off next due = Unit {0}
+KeepsAddress (Wait packet last) next due = next ≡ due
+KeepsAddress (Loaded packet) next due = next ≡ due
+KeepsAddress (Last packet) next due = next ≡ due
+KeepsAddress Armed next due = next ≡ due
+KeepsAddress Stall next due = next ≡ due
+KeepsAddress (Finished stage) next due = next ≡ due
+
+-- and that status stage is a packet for the host: endpoint 0 takes none from it
+abbrev pub is_for_host : Side → Bool
+is_for_host Off = true
+is_for_host (Wait packet last) = not last
+is_for_host (Loaded packet) = true
+is_for_host (Last packet) = false
+is_for_host Armed = false
+is_for_host Stall = true
+is_for_host (Finished Sent) = true
+is_for_host (Finished (Came bytes)) = false
+
+abbrev pub GivesStatus : Transfer → Side → Type 0
+GivesStatus (Addressing n) side = is_for_host side ≡ true
+GivesStatus Idle side = Unit {0}
+GivesStatus (Sending packets) side = Unit {0}
+GivesStatus Ending side = Unit {0}
+
+-- the controller's numbers are those of FS4
+abbrev pub tops : EpLimits
+tops = record { in_top = FS4.in_eps; out_top = FS4.out_eps; report_known = true }
+
+-- what the software keeps is what the driver's device has
+pub record Fits (set : Set) (p : Port) (state : CoreState) (transfer : Transfer) : Type 0 where
+  pub quiet : IsQuiet p
+  pub address : state.addr ≡ p.bus.address
+  pub endpoints : p.bus.endpoints ≡ opened set state.configured
+  pub served : AreServed tops (endpoints_of set.config)
+  pub keeps : KeepsAddress p.bus.side p.next_address (address_of transfer)
+  pub status : GivesStatus transfer p.bus.side
+
+-- while a note waits for a task, endpoint 0 holds nothing, and a SETUP came since the reset
+abbrev pub Rests : Port → Option Stage → Option (List ℕ) → Type 0
+Rests p finished request = has_note finished request ≡ true → (p.bus.side ≡ Off) × (p.heard ≡ true)
+
+-- controller and driver agree, and the software with them
+pub record Agrees (d : Device) : Type 0 where
+  pub sound : IsSound (joint d.port)
+  pub fits : Fits d.set (port_in d) d.state d.transfer
+  pub rests : Rests (port_in d) d.finished d.request

@@ -1,2 +1,5 @@
 pub mod Device
+pub mod Hears
+pub mod Laws
 pub mod Stage
+pub mod Task

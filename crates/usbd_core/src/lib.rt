@@ -6,6 +6,7 @@ mod data;
 mod halted;
 pub mod laws;
 mod stack;
+mod task;
 mod transfer;
 
 pub use stack::DevStack;

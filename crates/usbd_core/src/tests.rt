@@ -1,12 +1,22 @@
-ghost use Rattle.std.specs.Prelude.{◌≤◌, length};
+//! Requests on endpoint 0 over the registers of the controller.
+ghost use Rattle.std.specs.Prelude.{◌≡◌, ℕ, ◌<◌, ◌≤◌, [], IfOk, length, slice_index};
 ghost use Rattle.usb_descriptor.specs.Strings.{Ascend};
+ghost use Rattle.usb_descriptor.specs.Set.{IsAccepted};
+ghost use Rattle.usbd_core.specs.Device.{tops, Agrees};
 
 use crate::DevStack;
+use crate::laws::{bus_keeps, event_fits};
 use arrayvec::ArrayVec;
+use dwc2_access::Regs;
+use dwc2_devmodel::DevCore;
+use dwc2_regs::FS4;
 use std::alloc::Global;
 use std::process::Abort;
+use usb_control::CoreState;
 use usb_descriptor::{DescSet, EpLimits, SetFault, SetParts, StringPart, read_set};
 use usb_packet::{BusAnswer, BusEvent, Packet, Toggle};
+
+type Device = DevStack<DevCore>;
 
 const DEVICE: &[u8] = b"\x12\x01\x00\x02\x00\x00\x00\x40\xfe\xca\x01\x40\x00\x01\x00\x00\x00\x01";
 
@@ -23,6 +33,7 @@ fn set_of<'a>(
 ) -> Result<DescSet, SetFault>
     requires few { length strings.now ≤ 8 }
     requires ascending { Ascend 1 strings.now }
+    ensures { IfOk result (λ set. IsAccepted set tops) }
 {
     let parts = SetParts {
         device,
@@ -39,7 +50,10 @@ fn set_of<'a>(
 }
 
 /// A device with this configuration and string 1, the letter A.
-fn device(rt: &impl Abort, alloc: Global, config: &[u8]) -> DevStack {
+fn device(rt: &impl Abort, alloc: Global, config: &[u8]) -> Device
+    ensures agrees { Agrees result }
+    ensures still { result.port.bank.due ≡ [] }
+{
     let mut body = ArrayVec::new();
     body.push(b'A');
     body.push(0);
@@ -47,7 +61,7 @@ fn device(rt: &impl Abort, alloc: Global, config: &[u8]) -> DevStack {
     let mut bytes = ArrayVec::<u8, 512>::new();
     let _ = bytes.try_extend_from_slice(config);
     let set = set_of(DEVICE, bytes.as_slice(), &strings).expect(rt, "accepted");
-    DevStack::open(alloc, set).expect(rt, "memory")
+    DevStack::open(alloc, DevCore::new(FS4), set, FS4).expect(rt, "memory")
 }
 
 /// A configuration of so many bytes, from 20 on: an interface, and a descriptor of a type that no rule speaks of.
@@ -63,45 +77,113 @@ fn config_of(bytes: u8) -> ArrayVec<u8, 512> {
 }
 
 /// A device that was reset.
-fn awake(rt: &impl Abort, alloc: Global, config: &[u8]) -> DevStack {
+fn awake(rt: &impl Abort, alloc: Global, config: &[u8]) -> Device
+    ensures agrees { Agrees result }
+    ensures still { result.port.bank.due ≡ [] }
+{
     let mut device = device(rt, alloc, config);
-    let _ = device.bus(&BusEvent::Reset);
-    device.irq();
+    let _ = bus(&mut device, &BusEvent::Reset);
+    irq(&mut device);
     device
 }
 
-fn token(device: &mut DevStack, addr: u8, ep: u8, ok: bool) -> BusAnswer {
-    device.bus(&BusEvent::In { addr, ep, ok })
+fn bus(device: &mut Device, event: &BusEvent) -> BusAnswer
+    requires agrees { Agrees device.old }
+    requires still { device.old.port.bank.due ≡ [] }
+    ensures agrees { Agrees device.new }
+    ensures still { device.new.port.bank.due ≡ [] }
+{
+    event_fits(event);
+    bus_keeps();
+    device.regs().bus(event)
 }
 
-fn send(device: &mut DevStack, ep: u8, toggle: Toggle, bytes: &[u8]) -> BusAnswer {
+/// A handler run, with 400 accesses allowed.
+fn irq(device: &mut Device)
+    requires agrees { Agrees device.old }
+    requires still { device.old.port.bank.due ≡ [] }
+    ensures agrees { Agrees device.new }
+    ensures still { device.new.port.bank.due ≡ [] }
+{
+    device.regs().begin();
+    device.irq();
+}
+
+/// A task run, with as many.
+fn task(device: &mut Device)
+    requires agrees { Agrees device.old }
+    requires still { device.old.port.bank.due ≡ [] }
+    ensures agrees { Agrees device.new }
+    ensures still { device.new.port.bank.due ≡ [] }
+{
+    device.regs().begin();
+    device.task();
+}
+
+fn state(device: &Device) -> CoreState
+    requires { Agrees device.now }
+{
+    device.state()
+}
+
+fn token(device: &mut Device, addr: u8, ep: u8, ok: bool) -> BusAnswer
+    requires agrees { Agrees device.old }
+    requires still { device.old.port.bank.due ≡ [] }
+    ensures agrees { Agrees device.new }
+    ensures still { device.new.port.bank.due ≡ [] }
+{
+    bus(device, &BusEvent::In { addr, ep, ok })
+}
+
+fn send(device: &mut Device, ep: u8, toggle: Toggle, bytes: &[u8]) -> BusAnswer
+    requires agrees { Agrees device.old }
+    requires still { device.old.port.bank.due ≡ [] }
+    ensures agrees { Agrees device.new }
+    ensures still { device.new.port.bank.due ≡ [] }
+{
     let packet = Packet::new(bytes).unwrap_or(Packet::empty());
-    device.bus(&BusEvent::Out {
-        addr: 0,
-        ep,
-        toggle,
-        packet,
-        ok: true,
-    })
+    bus(
+        device,
+        &BusEvent::Out {
+            addr: 0,
+            ep,
+            toggle,
+            packet,
+            ok: true,
+        },
+    )
 }
 
 /// A request up to the answer to the first IN token, at address 0.
-fn ask(device: &mut DevStack, bytes: [u8; 8]) -> BusAnswer {
-    let _ = device.bus(&BusEvent::Setup {
-        addr: 0,
-        bytes,
-        ok: true,
-    });
-    device.irq();
+fn ask(device: &mut Device, bytes: [u8; 8]) -> BusAnswer
+    requires agrees { Agrees device.old }
+    requires still { device.old.port.bank.due ≡ [] }
+    ensures agrees { Agrees device.new }
+    ensures still { device.new.port.bank.due ≡ [] }
+{
+    let _ = bus(
+        device,
+        &BusEvent::Setup {
+            addr: 0,
+            bytes,
+            ok: true,
+        },
+    );
+    irq(device);
     next(device)
 }
 
 /// The answer to the next IN token, once a task and a handler run brought the packet.
-fn next(device: &mut DevStack) -> BusAnswer {
-    device.task();
-    device.irq();
+fn next(device: &mut Device) -> BusAnswer
+    requires agrees { Agrees device.old }
+    requires still { device.old.port.bank.due ≡ [] }
+    ensures agrees { Agrees device.new }
+    ensures still { device.new.port.bank.due ≡ [] }
+{
+    task(device);
+    irq(device);
     let answer = token(device, 0, 0, true);
-    device.irq();
+    irq(device);
     answer
 }
 
@@ -120,9 +202,14 @@ fn is_part(answer: &BusAnswer, toggle: Toggle, bytes: &[u8], from: usize) -> boo
 }
 
 /// SET_CONFIGURATION with this value.
-fn configure(device: &mut DevStack, value: u8) -> bool {
+fn configure(device: &mut Device, value: u8) -> bool
+    requires agrees { Agrees device.old }
+    requires still { device.old.port.bank.due ≡ [] }
+    ensures agrees { Agrees device.new }
+    ensures still { device.new.port.bank.due ≡ [] }
+{
     let answer = ask(device, [0, 9, value, 0, 0, 0, 0, 0]);
-    device.task();
+    task(device);
     is_data(&answer, Toggle::D1, &[])
 }
 
@@ -130,22 +217,25 @@ fn configure(device: &mut DevStack, value: u8) -> bool {
 #[test]
 fn new_address(rt: HostRuntime) {
     let mut device = awake(&rt, rt.alloc(), CONFIG);
-    let _ = device.bus(&BusEvent::Setup {
-        addr: 0,
-        bytes: [0, 5, 5, 0, 0, 0, 0, 0],
-        ok: true,
-    });
-    device.irq();
-    device.task();
-    device.irq();
+    let _ = bus(
+        &mut device,
+        &BusEvent::Setup {
+            addr: 0,
+            bytes: [0, 5, 5, 0, 0, 0, 0, 0],
+            ok: true,
+        },
+    );
+    irq(&mut device);
+    task(&mut device);
+    irq(&mut device);
     assert!(rt; is_data(&token(&mut device, 0, 0, false), Toggle::D1, &[]));
     assert!(rt; is_data(&token(&mut device, 0, 0, true), Toggle::D1, &[]));
     assert!(rt; matches!(token(&mut device, 5, 0, true), BusAnswer::NoAnswer));
-    assert_eq!(rt; device.state().addr, 0);
-    device.irq();
+    assert_eq!(rt; state(&device).addr, 0);
+    irq(&mut device);
     assert!(rt; matches!(token(&mut device, 0, 0, true), BusAnswer::NoAnswer));
     assert!(rt; matches!(token(&mut device, 5, 0, true), BusAnswer::Nak));
-    assert_eq!(rt; device.state().addr, 5);
+    assert_eq!(rt; state(&device).addr, 5);
 }
 
 /// Requests of one packet each (USB 2.0, 9.4), in a session.
@@ -255,7 +345,7 @@ fn halts(rt: HostRuntime) {
         assert!(rt; configure(&mut device, 3));
         let _ = ask(&mut device, [2, 3, 0, 0, 2, 0, 0, 0]);
         let _ = ask(&mut device, [2, 3, 0, 0, 0x81, 0, 0, 0]);
-        assert!(rt; device.state().halted.as_slice() == [2, 0x81].as_slice());
+        assert!(rt; state(&device).halted.as_slice() == [2, 0x81].as_slice());
         assert!(rt;
             is_data(
                 &ask(&mut device, [0x82, 0, 0, 0, 0x81, 0, 2, 0]),
@@ -273,8 +363,8 @@ fn halts(rt: HostRuntime) {
         );
         assert!(rt; matches!(token(&mut device, 0, 1, true), BusAnswer::Nak));
     }
-    let _ = device.bus(&BusEvent::Reset);
-    device.irq();
-    assert!(rt; !device.state().configured);
+    let _ = bus(&mut device, &BusEvent::Reset);
+    irq(&mut device);
+    assert!(rt; !state(&device).configured);
     assert!(rt; matches!(token(&mut device, 0, 1, true), BusAnswer::NoAnswer));
 }

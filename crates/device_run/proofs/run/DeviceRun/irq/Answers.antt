@@ -1,0 +1,13 @@
+use Rattle.std.proofs.Common.{ap, ◌∙◌, subst}
+use Rattle.usb_packet.specs.declared.bus.BusAnswer.TheVariants.{Done}
+use Rattle.usb_text.specs.declared.line.DevLine.TheVariants.{Irq}
+use Rattle.usb_text.specs.declared.line.Answer.TheVariants.{Bus as TheBus}
+use Rattle.controller_table.specs.Bank.{begun}
+use Rattle.device_run.specs.Run.{Run, Steps}
+use Rattle.device_run.proofs.Lines.{run_of, irq_steps}
+use Rattle.device_run.proofs.run.DeviceRun.irq.Goals as goal
+
+pub returns : goal.returns
+returns c =
+    subst (λ (r : Run). Steps r (run_of c.irq.new.self) Irq (TheBus Done)) c.self.view_is
+    (irq_steps c.self.inside.stack c.irq.new.self c.begin.new.self (c.begin.ensures ∙ ap begun c.regs.ensures.value) c.self.invariant.1 c.irq.ensures.set c.irq.ensures.core c.irq.ensures.goes)

@@ -1,0 +1,29 @@
+-- A device between two lines of its schedule, and what a line makes of it.
+use Rattle.std.specs.Prelude.{◌≡◌, List}
+use Rattle.dwc2_regs.specs.declared.access.Access.{Access}
+use Rattle.controller_table.specs.State.{Table}
+use Rattle.usb_descriptor.specs.Set.{Set}
+use Rattle.usb_text.specs.declared.line.DevLine.{DevLine}
+use Rattle.usb_text.specs.declared.line.Answer.{Answer}
+use Rattle.device_machine.specs.Core.{Core}
+use Rattle.device_schedule.specs.Schedule.{core_answer, core_after}
+use Rattle.device_schedule.specs.Trace.{IsTurn, after_turn}
+
+pub record Run : Type 0 where
+  -- its descriptors
+  pub set : Set
+  -- the core's machine
+  pub core : Core
+  -- the controller
+  pub table : Table
+  -- the accesses of the last line, the oldest first
+  pub log : List Access
+
+-- One line: the core answers it and goes on by its machine, and the controller goes on by the accesses and by the event of
+-- the line, which give that answer too.
+pub record Steps (old new : Run) (line : DevLine) (answer : Answer) : Type 0 where
+  pub set : new.set ≡ old.set
+  pub answered : answer ≡ core_answer old.core line
+  pub core : new.core ≡ core_after old.set old.core line
+  pub turn : IsTurn old.table line new.log answer
+  pub table : new.table ≡ after_turn old.table line new.log

@@ -1,0 +1,16 @@
+-- The first of the endpoints are open.
+use Rattle.std.proofs.Common.{◌≡◌, ◌+◌, ◌≤◌, [], take}
+use Rattle.device_driver_relation.specs.Relation.{IsSound}
+use Rattle.device_driver_relation.specs.Port.{port_of}
+use Rattle.dwc2_device.specs.Driver.{joint, GoesOn}
+use Rattle.usbd_core.specs.Task.{with_endpoints}
+use Rattle.usbd_core.proofs.task.open_all.Given as goal
+
+abbrev pub invariant-loop-endpoint : goal.invariant-loop-endpoint
+invariant-loop-endpoint g l = record {
+  port : port_of (joint l.port) ≡ with_endpoints (port_of (joint l.initial.port)) (take l.endpoint-index l.endpoints);
+  sound : IsSound (joint l.port);
+  spare : l.initial.port.bank.spare ≤ l.port.bank.spare + l.endpoint-index;
+  still : l.port.bank.due ≡ [];
+  goes : GoesOn l.initial.port.bank l.port.bank;
+}

@@ -1,0 +1,39 @@
+-- What the software makes of its driver's notes.
+use Rattle.std.specs.Prelude.{Option, Some, None}
+use Rattle.usb_control.specs.declared.state.CoreState.{CoreState}
+use Rattle.usb_control.specs.Table.{unconfigured}
+use Rattle.device_machine.specs.declared.control.Stage.TheVariants.{Sent, Came}
+use Rattle.device_machine.specs.Core.{Transfer, Idle, Sending, Ending, Addressing}
+use Rattle.dwc2_device.specs.Driver.{Driver}
+use Rattle.dwc2_device.specs.Notes.{first_note, without_note}
+use Rattle.dwc2_device.specs.declared.notes.Note.{Note}
+use Rattle.dwc2_device.specs.declared.notes.Note.TheVariants.{Reset, Ep0In, Ep0Out, Setup}
+use Rattle.usbd_core.specs.Device.{Device}
+
+-- a reset ends the session and all that went on (USB 2.0, 9.1.1.3)
+abbrev pub forgotten : Device → Device
+forgotten d = record d { state = unconfigured; finished = None; request = None; transfer = Idle }
+
+-- the end of the status stage of SET_ADDRESS brings the address (9.4.6)
+abbrev pub state_sent : CoreState → Transfer → CoreState
+state_sent state (Addressing n) = record state { addr = n }
+state_sent state Idle = state
+state_sent state (Sending packets) = state
+state_sent state Ending = state
+
+abbrev pub sent : Device → Device
+sent d = record d { state = state_sent d.state d.transfer; finished = Some Sent }
+
+abbrev pub noted : Device → Option Note → Device
+noted d None = d
+noted d (Some Reset) = forgotten d
+noted d (Some Ep0In) = sent d
+noted d (Some (Ep0Out packet)) = record d { finished = Some (Came packet) }
+noted d (Some (Setup bytes)) = record d { request = Some bytes }
+
+abbrev pub with_driver : Device → Driver → Device
+with_driver d port = record d { port = port }
+
+-- the next note is taken
+abbrev pub after_note : Device → Device
+after_note d = noted (with_driver d (record d.port { software = without_note d.port.software })) (first_note d.port.software)
