@@ -1,11 +1,19 @@
 -- What a sink took of what waits.
-use Rattle.std.proofs.Common.{◌≡◌, ℕ, ◌+◌, ◌-◌, ◌<◌, ◌≤◌, List, [], ◌∷◌, length, take, drop, refl, sym, ◌∙◌, arith, subst, ◌⊎◌, inl, inr, length-drop}
+use Rattle.std.proofs.Common.{◌≡◌, ℕ, ◌+◌, ◌-◌, ◌<◌, ◌≤◌, List, [], ◌∷◌, ◌++◌, Bool, true, false, length, map, take, drop, refl, ap, sym, ◌∙◌, arith, subst, append_assoc, ◌⊎◌, inl, inr, length-drop}
 use Rattle.std.specs.Prelude.{Option}
+use Rattle.std.specs.List.{flat_map}
 use Rattle.std.proofs.lemmas.List.{take-append-drop, take_all, append-nil}
 use Rattle.std.proofs.Math.Seq.{take-add}
 use Rattle.usb_edge.specs.Stream.{Takes, Rose}
 use Rattle.usb_edge.proofs.Streams.{takes-nothing, takes-more}
+use Rattle.dwc2_regs.specs.declared.access.Access.{Access}
+use Rattle.usb_text.specs.declared.line.Answer.{Answer}
+use Rattle.device_schedule.specs.Schedule.{answer_line}
+use Rattle.device_schedule.specs.Trace.{Turn, trace_text}
+use Rattle.device_schedule.proofs.Traces.{trace_text-more, turn_text-parts}
 use Rattle.usbrun.specs.Stream.{Hands}
+use Rattle.usbrun.specs.Texts.{Took, HandsBoth, added, out_part, trace_part, out_text, texts_of, AreEmpty}
+use Rattle.usbrun.specs.declared.texts.Texts.{Texts}
 use Rattle.usbrun.specs.Status.{status_line, Tells}
 use Rattle.usbrun.specs.declared.status.Status.{Status}
 
@@ -19,11 +27,87 @@ all_handed taken taken' bytes n e h = record {
 pub some_handed : (taken taken' : Option (List ℕ)) (bytes : List ℕ) (n : ℕ) → Takes taken taken' (take n bytes) → Hands taken taken' bytes (drop n bytes)
 some_handed taken taken' bytes n h = record { given = take n bytes; takes = h; joined = sym (take-append-drop n bytes) }
 
+pub none_handed : (taken : Option (List ℕ)) (bytes : List ℕ) → Hands taken taken bytes bytes
+none_handed taken bytes = record { given = []; takes = takes-nothing taken; joined = refl }
+
 pub none_taken : (taken : Option (List ℕ)) (bytes : List ℕ) → Takes taken taken (take 0 bytes)
 none_taken taken bytes = takes-nothing taken
 
 pub more_taken : (a b c : Option (List ℕ)) (bytes : List ℕ) (given n : ℕ) → Takes a b (take given bytes) → Takes b c (take n (drop given bytes)) → Takes a c (take (given + n) bytes)
 more_taken a b c bytes given n h k = subst (Takes a c) (sym (take-add given n bytes)) (takes-more a b c (take given bytes) (take n (drop given bytes)) h k)
+
+-- what was handed on in two steps, and what was added between them
+pub hands-more : (a b c : Option (List ℕ)) (x y z more : List ℕ) → Hands a b x y → Hands b c (y ++ more) z → Hands a c (x ++ more) z
+hands-more a b c x y z more h k = record {
+  given = h.given ++ k.given;
+  takes = takes-more a b c h.given k.given h.takes k.takes;
+  joined =
+      ap (λ t. t ++ more) h.joined ∙ append_assoc h.given y more ∙ ap (λ t. h.given ++ t) k.joined
+      ∙ sym (append_assoc h.given k.given z);
+}
+
+-- a text that is another one
+pub hands_as : (a b : Option (List ℕ)) (x y z : List ℕ) → x ≡ y → Hands a b x z → Hands a b y z
+hands_as a b x y z e h = record { given = h.given; takes = h.takes; joined = sym e ∙ h.joined }
+
+pub both_nothing : (took : Took) (s : Texts) → HandsBoth took took s s
+both_nothing took s = record { out = none_handed took.out s.out; trace = none_handed took.trace s.trace; regs = refl }
+
+pub both_added : (took mid took' : Took) (old s new : Texts) (accesses : List Access) (a : Answer) → HandsBoth took mid old s
+    → HandsBoth mid took' (added s accesses a) new → HandsBoth took took' (added old accesses a) new
+both_added took mid took' old s new accesses a h k = record {
+  out = hands-more took.out mid.out took'.out old.out s.out new.out (out_part old.regs accesses a) h.out
+      (hands_as mid.out took'.out (s.out ++ out_part s.regs accesses a) (s.out ++ out_part old.regs accesses a) new.out
+      (ap (λ r. s.out ++ out_part r accesses a) h.regs) k.out);
+  trace = hands-more took.trace mid.trace took'.trace old.trace s.trace new.trace (trace_part accesses a) h.trace k.trace;
+  regs = k.regs ∙ h.regs;
+}
+
+pub both_more : (took mid took' : Took) (old s new : Texts) → HandsBoth took mid old s → HandsBoth mid took' s new → HandsBoth took took' old new
+both_more took mid took' old s new h k = record {
+  out = two took.out mid.out took'.out old.out s.out new.out h.out k.out;
+  trace = two took.trace mid.trace took'.trace old.trace s.trace new.trace h.trace k.trace;
+  regs = k.regs ∙ h.regs;
+} where
+  two : (a b c : Option (List ℕ)) (x y z : List ℕ) → Hands a b x y → Hands b c y z → Hands a c x z
+  two a b c x y z h k =
+      hands_as a c (x ++ []) x z (append-nil x) (hands-more a b c x y z [] h (hands_as b c y (y ++ []) z (sym (append-nil y)) k))
+
+-- a line's texts and then what a line had added
+
+pub texts-nothing : (took : Took) (s : Texts) → AreEmpty s → HandsBoth took took (texts_of s.regs []) s
+texts-nothing took s e = record {
+  out = hands_as took.out took.out s.out (out_text s.regs []) s.out (e.0 ∙ nothing s.regs) (none_handed took.out s.out);
+  trace = hands_as took.trace took.trace s.trace [] s.trace e.1 (none_handed took.trace s.trace);
+  regs = refl;
+} where
+  nothing : (regs : Bool) → [] ≡ out_text regs []
+  nothing true = refl
+  nothing false = refl
+
+answer_lines-more : (turns : List Turn) (turn : Turn)
+    → flat_map answer_line (map (λ t. t.answer) (turns ++ turn ∷ [])) ≡ flat_map answer_line (map (λ t. t.answer) turns) ++ answer_line turn.answer
+answer_lines-more [] turn = append-nil (answer_line turn.answer)
+answer_lines-more (u ∷ us) turn =
+    ap (λ t. answer_line u.answer ++ t) (answer_lines-more us turn)
+    ∙ sym (append_assoc (answer_line u.answer) (flat_map answer_line (map (λ t. t.answer) us)) (answer_line turn.answer))
+
+trace_is-more : (turns : List Turn) (turn : Turn) → trace_text turns ++ trace_part turn.accesses turn.answer ≡ trace_text (turns ++ turn ∷ [])
+trace_is-more turns turn = ap (λ t. trace_text turns ++ t) (sym (turn_text-parts turn)) ∙ sym (trace_text-more turns turn)
+
+out_is-more : (regs : Bool) (turns : List Turn) (turn : Turn) → out_text regs turns ++ out_part regs turn.accesses turn.answer ≡ out_text regs (turns ++ turn ∷ [])
+out_is-more true turns turn = trace_is-more turns turn
+out_is-more false turns turn = sym (answer_lines-more turns turn)
+
+pub texts-more : (took mid took' : Took) (regs : Bool) (turns : List Turn) (turn : Turn) (s new : Texts) → HandsBoth took mid (texts_of regs turns) s
+    → HandsBoth mid took' (added s turn.accesses turn.answer) new → HandsBoth took took' (texts_of regs (turns ++ turn ∷ [])) new
+texts-more took mid took' regs turns turn s new h k =
+    let all = both_added took mid took' (texts_of regs turns) s new turn.accesses turn.answer h k in
+    record {
+      out = hands_as took.out took'.out _ (out_text regs (turns ++ turn ∷ [])) new.out (out_is-more regs turns turn) all.out;
+      trace = hands_as took.trace took'.trace _ (trace_text (turns ++ turn ∷ [])) new.trace (trace_is-more turns turn) all.trace;
+      regs = all.regs;
+    }
 
 -- a status's line, or the front of it that a sink took before it failed
 pub line_told : (status : Status) (line : List ℕ) (n : ℕ) (taken taken' : Option (List ℕ)) (faults faults' : ℕ) → line ≡ status_line status → n ≤ length line

@@ -1,10 +1,11 @@
 -- How a run that stopped ends.
-use Rattle.std.specs.Prelude.{◌≡◌, ℕ, ◌+◌, List, [], ◌⊎◌}
-use Rattle.usb_edge.specs.Stream.{Rose}
+use Rattle.std.specs.Prelude.{◌≡◌, ℕ, ◌+◌, ◌⊎◌}
+use Rattle.usbrun.specs.Texts.{AreEmpty, OneRose}
 use Rattle.usbrun.specs.declared.head.NoHead.{NoHead}
 use Rattle.usbrun.specs.declared.head.NoHead.TheVariants as no
 use Rattle.usbrun.specs.declared.session.Stop.{Stop}
 use Rattle.usbrun.specs.declared.session.Stop.TheVariants as stop
+use Rattle.usbrun.specs.declared.texts.Texts.{Texts}
 use Rattle.usbrun.specs.declared.status.Status.{Status}
 use Rattle.usbrun.specs.declared.status.Status.TheVariants as status
 
@@ -23,7 +24,8 @@ stop_status stop.TooLong lines = status.TooLong
 stop_status stop.ReadFault lines = status.ReadFault
 stop_status stop.WriteFault lines = status.WriteFault
 
--- that status, once all that waited was handed on; or the sink failed
-abbrev pub Finishes : Stop → ℕ → Status → List ℕ → ℕ → ℕ → Type 0
-Finishes s lines ended waiting writes writes' =
-    ((ended ≡ stop_status s lines) × (waiting ≡ [])) ⊎ ((ended ≡ status.WriteFault) × ((s ≡ stop.WriteFault) ⊎ Rose writes writes'))
+-- that status, once all that waited was handed on; or a sink failed
+abbrev pub Finishes : Stop → ℕ → Status → Texts → ℕ → ℕ → ℕ → ℕ → Type 0
+Finishes s lines ended texts writes writes' marks marks' =
+    ((ended ≡ stop_status s lines) × AreEmpty texts)
+    ⊎ ((ended ≡ status.WriteFault) × ((s ≡ stop.WriteFault) ⊎ OneRose writes writes' marks marks'))

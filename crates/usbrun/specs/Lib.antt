@@ -2,7 +2,10 @@ pub mod Stream
 pub mod Lines
 pub mod Draft
 pub mod Head
+pub mod Texts
 pub mod Session
 pub mod Finish
 pub mod Status
+pub mod Read
+pub mod Written
 pub mod Top

@@ -26,6 +26,7 @@ abbrev pub bytes_left : Option (List ℕ) → List ℕ
 bytes_left None = []
 bytes_left (Some left) = left
 
--- behind what waits, of at most 32,768 bytes, there is room for one answer more with its newline
+-- behind what waits, of at most 32,768 bytes, there is room for what one line more adds: 400 register lines of at most 17
+-- bytes and an answer of 8,200, each with its newline
 abbrev pub HasRoom : List ℕ → Type 0
-HasRoom waiting = length waiting + 8200 ≤ 32768
+HasRoom waiting = length waiting + 15000 ≤ 32768

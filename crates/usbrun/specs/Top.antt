@@ -1,107 +1,63 @@
 -- What the program does, by how it ends.
-use Rattle.std.specs.Prelude.{◌≡◌, ℕ, ◌≤◌, List, [], ◌∷◌, ◌++◌, length, true, Option, Some, None, IfSome, codes, ◌⊎◌}
-use Rattle.usb_edge.specs.Stream.{Takes, Rose}
-use Rattle.usb_text.specs.declared.line.DevLine.{DevLine}
-use Rattle.usb_text.specs.declared.head.HeadLine.{HeadLine}
-use Rattle.device_schedule.specs.Schedule.{device_text}
-use Rattle.usb_text.specs.Plain.{is_plain}
-use Rattle.device_schedule.specs.Job.{Job, Spells, IsAccepted, front_text, closed, is_whole, set_fault}
-use Rattle.usb_text.specs.Rules.{most_line}
-use Rattle.device_schedule.specs.Outcome.{Front, RefusesLine, RefusesSet, EndsShort, PassesLimit, Outcome, IsOutcome, set_of}
+use Rattle.std.specs.Prelude.{◌≡◌, ℕ, List, [], ◌∷◌, Bool, true, false, Option, Some, None, IfSome, codes, ◌⊎◌}
+use Rattle.usb_edge.specs.Stream.{Rose}
+use Rattle.device_schedule.specs.Job.{Job, Spells}
+use Rattle.device_schedule.specs.Outcome.{RefusesLine, RefusesSet, EndsShort, PassesLimit, Outcome, IsOutcome}
 use Rattle.device_schedule.specs.Outcome as outcome
+use Rattle.usbrun.specs.Read.{Told, ToldBoth, ReadSoFar, Begins, HasHead}
+use Rattle.usbrun.specs.Texts.{OneRose}
+use Rattle.usbrun.specs.Written.{Ways, Writes, WritesFront, WritesNothing}
 use Rattle.usbrun.specs.declared.status.Status.{Status}
 use Rattle.usbrun.specs.declared.status.Status.TheVariants as status
 
--- the words of the command
-abbrev pub IsDevice : List (List ℕ) → Type 0
-IsDevice words = words ≡ codes "device" ∷ []
+-- the words of the command: `device`, and then `--regs` where the output has the register lines too
+abbrev pub IsCommand : List (List ℕ) → Bool → Type 0
+IsCommand words false = words ≡ codes "device" ∷ []
+IsCommand words true = words ≡ codes "device" ∷ codes "--regs" ∷ []
 
--- what holds of the bytes that a source had: where it tells them, of those; else of some bytes
-abbrev pub Told : Option (List ℕ) → (List ℕ → Type 0) → Type 0
-Told (Some input) P = P input
-Told None P = (input : List ℕ) × P input
+-- the command of the words, where they are one
+abbrev pub IsCommandOf : List (List ℕ) → Option Bool → Type 0
+IsCommandOf words (Some regs) = IsCommand words regs
+IsCommandOf words None = (regs : Bool) → IsCommand words regs → ⊥
 
--- the sink took the text of the answers to a schedule, each that of its line's owner, and nothing else
-abbrev pub Writes : List HeadLine → List DevLine → Option (List ℕ) → Option (List ℕ) → Type 0
-Writes head schedule taken taken' = Takes taken taken' (device_text (set_of head) schedule)
+-- Why a run of the command ends as it does, and what the sinks took.
+abbrev pub Ends : Status → Bool → Ways → Type 0
+Ends status.Ok regs w = Told w.left (λ input. (job : Job) × Spells input job × Writes regs job.head job.schedule w)
+Ends status.Usage regs w = ⊥
+Ends (status.BadJob line rule) regs w = Told w.left (λ input. (r : RefusesLine input line rule) × Writes regs r.head r.schedule w)
+Ends (status.BadSet rule at) regs w = Told w.left (λ input. RefusesSet input (record { rule = rule; at = at })) × WritesNothing w
+Ends status.ReadFault regs w = Rose w.reads w.reads' × ToldBoth w.left w.left' (λ input rest. (b : ReadSoFar input rest) × Writes regs b.head b.schedule w)
+Ends status.WriteFault regs w =
+    OneRose w.writes w.writes' w.marks w.marks' × Told w.left (λ input. (b : Begins input) × WritesFront regs b.head b.schedule w)
+Ends status.NoMemory regs w = Told w.left HasHead × WritesNothing w
+Ends (status.Short lines) regs w = Told w.left (λ input. (s : EndsShort input lines) × Writes regs s.head s.schedule w)
+Ends status.TooLong regs w = Told w.left (λ input. (p : PassesLimit input) × Writes regs p.head p.schedule w)
 
--- it took the front of that text
-pub record WritesFront (head : List HeadLine) (schedule : List DevLine) (taken taken' : Option (List ℕ)) : Type 0 where
-  pub given : List ℕ
-  pub more : List ℕ
-  pub text : device_text (set_of head) schedule ≡ given ++ more
-  pub takes : Takes taken taken' given
+-- the words are those of a command, and its run ends so
+pub record RunEnds (s : Status) (words : List (List ℕ)) (w : Ways) : Type 0 where
+  pub regs : Bool
+  pub command : IsCommand words regs
+  pub ends : Ends s regs w
 
--- what holds of those bytes and of what is left of them now
-abbrev pub ToldBoth : Option (List ℕ) → Option (List ℕ) → (List ℕ → List ℕ → Type 0) → Type 0
-ToldBoth (Some input) (Some left) P = P input left
-ToldBoth None None P = (input : List ℕ) × P input []
-ToldBoth (Some input) None P = ⊥
-ToldBoth None (Some left) P = ⊥
+-- they are those of none: nothing is read or written
+pub record NoCommand (words : List (List ℕ)) (w : Ways) : Type 0 where
+  pub none : IsCommandOf words None
+  pub taken : w.taken' ≡ w.taken
+  pub traced : w.traced' ≡ w.traced
+  pub left : w.left' ≡ w.left
+  pub reads : w.reads' ≡ w.reads
 
--- All whole lines of what was read, which is all but what is left: of the next line only a part was read, and neither the
--- set nor a line before it was refused.
-pub record ReadSoFar (input left : List ℕ) : Type 0 where
-  pub head : List HeadLine
-  pub schedule : List DevLine
-  pub part : List ℕ
-  pub text : input ≡ front_text head schedule ++ (part ++ left)
-  pub plain : is_plain part ≡ true
-  pub part_of_line : length part ≤ most_line
-  pub front : Front input head schedule (closed (part ++ left))
-  pub set : is_whole head ≡ true → set_fault head ≡ None
-
--- lines that the bytes begin with, and what follows
-pub record Begins (input : List ℕ) : Type 0 where
-  pub head : List HeadLine
-  pub schedule : List DevLine
-  pub rest : List ℕ
-  pub front : Front input head schedule rest
-  pub set : is_whole head ≡ true → set_fault head ≡ None
-
--- the bytes begin with a whole head with an accepted set
-pub record HasHead (input : List ℕ) : Type 0 where
-  pub head : List HeadLine
-  pub rest : List ℕ
-  pub front : Front input head [] rest
-  pub accepted : IsAccepted head
-
--- Why a run of `device` ends as it does, and what the sink took. `left` is what the source had and `left'` what
--- it has left, `reads` and
--- `reads'` its count of faults before and after, `taken` and `taken'` what the sink had taken, and `writes` and
--- `writes'` its count.
-abbrev pub Ends : Status → Option (List ℕ) → Option (List ℕ) → ℕ → ℕ → Option (List ℕ) → Option (List ℕ) → ℕ → ℕ → Type 0
-Ends status.Ok left left' reads reads' taken taken' writes writes' =
-    Told left (λ input. (job : Job) × Spells input job × Writes job.head job.schedule taken taken')
-Ends status.Usage left left' reads reads' taken taken' writes writes' = ⊥
-Ends (status.BadJob line rule) left left' reads reads' taken taken' writes writes' =
-    Told left (λ input. (r : RefusesLine input line rule) × Writes r.head r.schedule taken taken')
-Ends (status.BadSet rule at) left left' reads reads' taken taken' writes writes' =
-    Told left (λ input. RefusesSet input (record { rule = rule; at = at })) × Takes taken taken' []
-Ends status.ReadFault left left' reads reads' taken taken' writes writes' =
-    Rose reads reads' × ToldBoth left left' (λ input rest. (b : ReadSoFar input rest) × Writes b.head b.schedule taken taken')
-Ends status.WriteFault left left' reads reads' taken taken' writes writes' =
-    Rose writes writes' × Told left (λ input. (b : Begins input) × WritesFront b.head b.schedule taken taken')
-Ends status.NoMemory left left' reads reads' taken taken' writes writes' = Told left HasHead × Takes taken taken' []
-Ends (status.Short lines) left left' reads reads' taken taken' writes writes' =
-    Told left (λ input. (s : EndsShort input lines) × Writes s.head s.schedule taken taken')
-Ends status.TooLong left left' reads reads' taken taken' writes writes' =
-    Told left (λ input. (p : PassesLimit input) × Writes p.head p.schedule taken taken')
-
--- the program's words decide first: no others than `device` are a command
-abbrev pub Cause : Status → List (List ℕ) → Option (List ℕ) → Option (List ℕ) → ℕ → ℕ → Option (List ℕ) → Option (List ℕ) → ℕ → ℕ → Type 0
-Cause status.Ok words left left' reads reads' taken taken' writes writes' = IsDevice words × Ends status.Ok left left' reads reads' taken taken' writes writes'
-Cause status.Usage words left left' reads reads' taken taken' writes writes' = (IsDevice words → ⊥) × (taken' ≡ taken) × (left' ≡ left) × (reads' ≡ reads)
-Cause (status.BadJob line rule) words left left' reads reads' taken taken' writes writes' =
-    IsDevice words × Ends (status.BadJob line rule) left left' reads reads' taken taken' writes writes'
-Cause (status.BadSet rule at) words left left' reads reads' taken taken' writes writes' =
-    IsDevice words × Ends (status.BadSet rule at) left left' reads reads' taken taken' writes writes'
-Cause status.ReadFault words left left' reads reads' taken taken' writes writes' = IsDevice words × Ends status.ReadFault left left' reads reads' taken taken' writes writes'
-Cause status.WriteFault words left left' reads reads' taken taken' writes writes' = IsDevice words × Ends status.WriteFault left left' reads reads' taken taken' writes writes'
-Cause status.NoMemory words left left' reads reads' taken taken' writes writes' = IsDevice words × Ends status.NoMemory left left' reads reads' taken taken' writes writes'
-Cause (status.Short lines) words left left' reads reads' taken taken' writes writes' =
-    IsDevice words × Ends (status.Short lines) left left' reads reads' taken taken' writes writes'
-Cause status.TooLong words left left' reads reads' taken taken' writes writes' = IsDevice words × Ends status.TooLong left left' reads reads' taken taken' writes writes'
+-- the program's words decide first
+abbrev pub Cause : Status → List (List ℕ) → Ways → Type 0
+Cause status.Ok words w = RunEnds status.Ok words w
+Cause status.Usage words w = NoCommand words w
+Cause (status.BadJob line rule) words w = RunEnds (status.BadJob line rule) words w
+Cause (status.BadSet rule at) words w = RunEnds (status.BadSet rule at) words w
+Cause status.ReadFault words w = RunEnds status.ReadFault words w
+Cause status.WriteFault words w = RunEnds status.WriteFault words w
+Cause status.NoMemory words w = RunEnds status.NoMemory words w
+Cause (status.Short lines) words w = RunEnds (status.Short lines) words w
+Cause status.TooLong words w = RunEnds status.TooLong words w
 
 -- the status of a reading
 abbrev pub outcome_status : Outcome → Status
@@ -111,14 +67,18 @@ outcome_status (outcome.BadSet fault) = status.BadSet fault.rule fault.at
 outcome_status (outcome.Short lines) = status.Short lines
 outcome_status outcome.TooLong = status.TooLong
 
+-- no count of faults rose
+abbrev pub NoneRose : Ways → Type 0
+NoneRose w = (Rose w.reads w.reads' → ⊥) × (Rose w.writes w.writes' → ⊥) × (Rose w.marks w.marks' → ⊥)
+
 -- Where no count of faults rises, the program ends as its source's bytes are read, unless there is no memory: so a
 -- refusal comes exactly where they have that outcome.
-abbrev pub Exact : Status → List (List ℕ) → Option (List ℕ) → ℕ → ℕ → ℕ → ℕ → Type 0
-Exact s words left reads reads' writes writes' = IsDevice words → IfSome left (λ input. (o : Outcome) → IsOutcome input o
-    → (Rose reads reads' → ⊥) → (Rose writes writes' → ⊥) → (s ≡ outcome_status o) ⊎ (s ≡ status.NoMemory))
+abbrev pub Exact : Status → List (List ℕ) → Ways → Type 0
+Exact s words w = (regs : Bool) → IsCommand words regs → NoneRose w
+    → IfSome w.left (λ input. (o : Outcome) → IsOutcome input o → (s ≡ outcome_status o) ⊎ (s ≡ status.NoMemory))
 
 -- A job that is spelled whole is answered whole, unless there is no memory, and then nothing is written.
-abbrev pub Completes : Status → List (List ℕ) → Option (List ℕ) → ℕ → ℕ → Option (List ℕ) → Option (List ℕ) → ℕ → ℕ → Type 0
-Completes s words left reads reads' taken taken' writes writes' = IsDevice words → IfSome left (λ input. (job : Job) → Spells input job
-    → (Rose reads reads' → ⊥) → (Rose writes writes' → ⊥)
-    → ((s ≡ status.Ok) × Writes job.head job.schedule taken taken') ⊎ ((s ≡ status.NoMemory) × Takes taken taken' []))
+abbrev pub Completes : Status → List (List ℕ) → Ways → Type 0
+Completes s words w = (regs : Bool) → IsCommand words regs → NoneRose w
+    → IfSome w.left (λ input. (job : Job) → Spells input job
+    → ((s ≡ status.Ok) × Writes regs job.head job.schedule w) ⊎ ((s ≡ status.NoMemory) × WritesNothing w))

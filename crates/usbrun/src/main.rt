@@ -1,4 +1,5 @@
-//! Replays a schedule of bus events, handler runs and task runs of a USB device, and answers each line.
+//! Replays a schedule of bus events, handler runs and task runs of a USB device, and answers each line. With `--regs` it
+//! shows the accesses to the controller's registers too.
 #![tactic(auto)]
 
 ghost use Rattle.std.specs.Prelude.{◌≡◌};
@@ -14,6 +15,7 @@ mod session;
 mod status;
 #[cfg(test)]
 mod tests;
+mod texts;
 mod top;
 mod writer;
 
@@ -21,7 +23,7 @@ use status::Status;
 use std::io::ErrorKind;
 use std::process::ExitCode;
 use std::{env, io};
-use usb_edge::{FileDisks, StderrSink, StdinSource, StdoutSink};
+use usb_edge::{FileDisks, NoSink, StderrSink, StdinSource, StdoutSink};
 
 /// The words after the program's name.
 fn words(rt: &HostRuntime) -> io::Result<Vec<String>> {
@@ -41,6 +43,7 @@ fn run_words(rt: &HostRuntime, words: &[String]) -> io::Result<Status> {
     let mut src = StdinSource::new(rt.stdin());
     let mut out = StdoutSink::new(rt.stdout());
     let mut err = StderrSink::new(rt.stderr());
+    let mut trace = NoSink::new();
     let mut disks = FileDisks::new();
     Ok(top::usb_top(
         rt.alloc(),
@@ -48,6 +51,7 @@ fn run_words(rt: &HostRuntime, words: &[String]) -> io::Result<Status> {
         &mut src,
         &mut out,
         &mut err,
+        &mut trace,
         &mut disks,
     ))
 }

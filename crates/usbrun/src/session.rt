@@ -1,5 +1,5 @@
 use crate::lines::Lines;
-use crate::writer::Writer;
+use crate::texts::Texts;
 use device_run::DeviceRun;
 
 /// A run between two lines of its schedule.
@@ -8,7 +8,7 @@ pub struct Session {
     /// The lines of its source.
     pub lines: Lines,
     /// What waits to be written.
-    pub writer: Writer,
+    pub texts: Texts,
     /// The device.
     pub run: DeviceRun,
 }
@@ -26,6 +26,6 @@ pub enum Stop {
     TooLong,
     /// The source failed.
     ReadFault,
-    /// The sink failed.
+    /// A sink failed.
     WriteFault,
 }

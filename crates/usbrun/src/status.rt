@@ -19,7 +19,7 @@ pub enum Status {
     BadSet { rule: u8, at: u16 },
     /// The source failed.
     ReadFault,
-    /// The sink failed.
+    /// A sink failed.
     WriteFault,
     /// There was no memory to open a run.
     NoMemory,

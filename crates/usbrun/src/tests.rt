@@ -2,7 +2,7 @@ use crate::status::Status;
 use crate::top::usb_top;
 use std::alloc::Global;
 use std::test::Fail;
-use usb_edge::{FileDisks, MemSink, MemSource};
+use usb_edge::{FileDisks, MemSink, MemSource, NoSink};
 
 const HEAD: &str =
     "device 1201000200000040feca0140000100000001\nconfig 0902120001010080320904000000ff000000\nbegin\n";
@@ -12,21 +12,23 @@ const DEVICE: &str = "device 1201000200000040feca0140000100000001\n";
 
 const CONFIG: &str = "config 0902120001010080320904000000ff000000\n";
 
-/// What a run did: how it ended, and what was written to `out` and to `err`.
+/// What a run did: how it ended, and what was written to `out`, to `err` and to the trace.
 #[derive(Drop)]
 struct Outcome {
     status: Status,
     text: Vec<u8>,
     told: Vec<u8>,
+    traced: Vec<u8>,
 }
 
-/// How a run is disturbed: the most bytes of one read, and the numbers of the read and of the write that fail,
-/// where 0 is none.
+/// How a run is disturbed: the most bytes of one read, and the numbers of the read, of the write to `out` and of the
+/// write to the trace that fail, where 0 is none.
 #[derive(Clone, Copy)]
 struct Trial {
     piece: usize,
     read: u64,
     write: u64,
+    mark: u64,
 }
 
 impl Trial {
@@ -35,6 +37,7 @@ impl Trial {
             piece: 4096,
             read: 0,
             write: 0,
+            mark: 0,
         }
     }
 }
@@ -43,16 +46,21 @@ impl Trial {
 fn run_job(alloc: Global, words: &[&str], job: &str, trial: Trial) -> Result<Outcome, Fail> {
     let reads = [trial.read].to_vec(alloc)?;
     let writes = [trial.write].to_vec(alloc)?;
+    let marks = [trial.mark].to_vec(alloc)?;
     let bytes = job.as_bytes().to_vec(alloc)?;
     let mut src = MemSource::new(bytes, trial.piece.max(1), reads);
     let mut out = MemSink::new(alloc, 65536, writes)?;
     let mut err = MemSink::new(alloc, 64, Vec::new(alloc))?;
+    let mut trace = MemSink::new(alloc, 262_144, marks)?;
     let mut disks = FileDisks::new();
-    let status = usb_top(alloc, words, &mut src, &mut out, &mut err, &mut disks);
+    let status = usb_top(
+        alloc, words, &mut src, &mut out, &mut err, &mut trace, &mut disks,
+    );
     Ok(Outcome {
         status,
         text: out.bytes().to_vec(alloc)?,
         told: err.bytes().to_vec(alloc)?,
+        traced: trace.bytes().to_vec(alloc)?,
     })
 }
 
@@ -121,6 +129,7 @@ fn runs_jobs(rt: HostRuntime) -> Result<(), Fail> {
                 piece,
                 read: 0,
                 write: 0,
+                mark: 0,
             };
             let run = run_job(rt.alloc(), &["device"], job.as_str(), trial)?;
             assert_eq!(rt; run.status, Status::Ok, "{schedule}");
@@ -165,6 +174,91 @@ fn serves_standard_requests(rt: HostRuntime) -> Result<(), Fail> {
         let run = run_job(rt.alloc(), &["device"], job.as_str(), Trial::plain())?;
         assert_eq!(rt; run.status, Status::Ok, "{schedule}");
         assert_eq!(rt; run.text.as_slice(), answers.as_bytes(), "{schedule}");
+    }
+    Ok(())
+}
+
+/// The lines of a trace that are answers, and how many register lines stand before each.
+#[derive(Drop)]
+struct Turns {
+    answers: Vec<u8>,
+    accesses: Vec<usize>,
+}
+
+fn turns_of(alloc: Global, trace: &[u8]) -> Result<Turns, Fail> {
+    let mut answers = Vec::new(alloc);
+    let mut accesses = Vec::new(alloc);
+    let mut count: usize = 0;
+    for line in trace.split(|b| *b == b'\n') {
+        if line.starts_with(b"r ") || line.starts_with(b"w ") {
+            count = count.saturating_add(1);
+        } else if !line.is_empty() {
+            answers.extend_from_slice(line)?;
+            answers.push(b'\n')?;
+            accesses.push(count)?;
+            count = 0;
+        }
+    }
+    Ok(Turns { answers, accesses })
+}
+
+/// The registers of a run: each line has those that its turn made, a line of the bus none, and a handler run of a reset
+/// some. The answers stand among them in their order. Where they are shown, the output is the trace.
+#[test]
+fn shows_registers(rt: HostRuntime) -> Result<(), Fail> {
+    let schedule =
+        "reset\nirq\ntask\nsetup 0 8006000100001200 ok\nirq\ntask\nirq\nin 0 0 ok\nirq\ntask\nout 0 0 1 - ok\nstate\n";
+    let on_bus = [
+        true, false, false, true, false, false, false, true, false, false, true, false,
+    ];
+    let answers =
+        "ok\nok\nok\nack\nok\nok\nok\ndata1 1201000200000040feca0140000100000001\nok\nok\nack\nstate 0 0\n";
+    let job = joined(rt.alloc(), &[HEAD, schedule, "end\n"])?;
+    for piece in [9, 4096] {
+        let trial = Trial {
+            piece,
+            read: 0,
+            write: 0,
+            mark: 0,
+        };
+        let run = run_job(rt.alloc(), &["device"], job.as_str(), trial)?;
+        assert_eq!(rt; run.status, Status::Ok);
+        assert_eq!(rt; run.text.as_slice(), answers.as_bytes());
+        let turns = turns_of(rt.alloc(), run.traced.as_slice())?;
+        assert_eq!(rt; turns.answers.as_slice(), answers.as_bytes());
+        assert_eq!(rt; turns.accesses.len(), on_bus.len());
+        for (count, bus) in turns.accesses.iter().zip(on_bus.iter()) {
+            assert!(rt; !*bus || *count == 0);
+        }
+        assert!(rt; turns.accesses.get(1).is_some_and(|count| *count > 0));
+        let shown = run_job(rt.alloc(), &["device", "--regs"], job.as_str(), trial)?;
+        assert_eq!(rt; shown.status, Status::Ok);
+        assert_eq!(rt; shown.text.as_slice(), run.traced.as_slice());
+        assert_eq!(rt; shown.traced.as_slice(), run.traced.as_slice());
+    }
+    Ok(())
+}
+
+/// A trace that can't be written, and an output that can't after it: nothing of what waits goes to `out` before it went
+/// to the trace.
+#[test]
+fn tells_faults_of_the_trace(rt: HostRuntime) -> Result<(), Fail> {
+    let job = joined(rt.alloc(), &[HEAD, "reset\nirq\nend\n"])?;
+    let words: [&[&str]; 2] = [&["device"], &["device", "--regs"]];
+    for some in &words {
+        for (write, mark) in [(0, 1), (1, 0), (1, 1)] {
+            let trial = Trial {
+                piece: 4096,
+                read: 0,
+                write,
+                mark,
+            };
+            let run = run_job(rt.alloc(), *some, job.as_str(), trial)?;
+            assert_eq!(rt; run.status, Status::WriteFault);
+            assert!(rt; run.text.is_empty());
+            assert_eq!(rt; run.traced.is_empty(), mark == 1);
+            assert_eq!(rt; run.told.as_slice(), b"usbrun: write fault\n".as_slice());
+        }
     }
     Ok(())
 }
@@ -316,6 +410,7 @@ fn refuses_sets(rt: HostRuntime) -> Result<(), Fail> {
         assert_eq!(rt; run.told.as_slice(), told.as_bytes());
         assert_eq!(rt; run.status.number(), 3);
         assert!(rt; run.text.is_empty());
+        assert!(rt; run.traced.is_empty());
     }
     Ok(())
 }
@@ -324,17 +419,23 @@ fn refuses_sets(rt: HostRuntime) -> Result<(), Fail> {
 #[test]
 fn refuses_words(rt: HostRuntime) -> Result<(), Fail> {
     let job = joined(rt.alloc(), &[HEAD, "reset\nend\n"])?;
-    let words: [&[&str]; 5] = [
+    let words: [&[&str]; 10] = [
         &[],
         &["host"],
         &["device", "device"],
         &["device", "--disk=x"],
         &["Device"],
+        &["--regs"],
+        &["--regs", "device"],
+        &["host", "--regs"],
+        &["device", "--Regs"],
+        &["device", "--regs", "--regs"],
     ];
     for some in &words {
         let run = run_job(rt.alloc(), *some, job.as_str(), Trial::plain())?;
         assert_eq!(rt; run.status, Status::Usage);
         assert!(rt; run.text.is_empty());
+        assert!(rt; run.traced.is_empty());
         assert_eq!(rt; run.told.as_slice(), b"usbrun: usage\n".as_slice());
     }
     Ok(())
@@ -352,7 +453,12 @@ fn tells_faults(rt: HostRuntime) -> Result<(), Fail> {
         (100, 0, 1, Status::WriteFault, "", "usbrun: write fault\n"),
     ];
     for (piece, read, write, wanted, answers, told) in table {
-        let trial = Trial { piece, read, write };
+        let trial = Trial {
+            piece,
+            read,
+            write,
+            mark: 0,
+        };
         let run = run_job(rt.alloc(), &["device"], job.as_str(), trial)?;
         assert_eq!(rt; run.status, wanted);
         assert_eq!(rt; run.text.as_slice(), answers.as_bytes());
@@ -397,6 +503,7 @@ fn errors_change_nothing(rt: HostRuntime) -> Result<(), Fail> {
         let mut src = MemSource::new(bytes, 4096, Vec::new(rt.alloc()));
         let mut out = MemSink::new(rt.alloc(), 64, Vec::new(rt.alloc()))?;
         let mut err = MemSink::new(rt.alloc(), room, [fail].to_vec(rt.alloc())?)?;
+        let mut trace = NoSink::new();
         let mut disks = FileDisks::new();
         let status = usb_top(
             rt.alloc(),
@@ -404,6 +511,7 @@ fn errors_change_nothing(rt: HostRuntime) -> Result<(), Fail> {
             &mut src,
             &mut out,
             &mut err,
+            &mut trace,
             &mut disks,
         );
         assert_eq!(rt; status, Status::BadJob { line: 5, rule: 3 });

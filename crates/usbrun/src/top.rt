@@ -1,12 +1,13 @@
-ghost use Rattle.std.specs.Prelude.{◌≡◌, ◌≤◌, ◌<◌, ◌+◌, ◌^◌, ◌↔◌, None, Some, map, length, is_some, IsTrue, IfOk, IfErr};
+ghost use Rattle.std.specs.Prelude.{◌≡◌, ◌≤◌, ◌<◌, ◌+◌, ◌^◌, ◌↔◌, None, Some, true, false, map, length, is_some, IsTrue, IfOk, IfErr};
 ghost use Rattle.std.specs.Option.{option_map};
 ghost use Rattle.usb_descriptor.specs.Strings.{Ascend, string_descriptor};
 ghost use Rattle.usb_descriptor.specs.Verdict.{verdict};
 ghost use Rattle.device_schedule.specs.Job.{limits};
-ghost use Rattle.usbrun.specs.Stream.{Hands};
+ghost use Rattle.usbrun.specs.Texts.{both, HandsBoth};
 ghost use Rattle.usbrun.specs.Finish.{Finishes, head_status, stop_status};
 ghost use Rattle.usbrun.specs.Status.{Tells};
-ghost use Rattle.usbrun.specs.Top.{IsDevice, Ends, Cause, Exact, Completes};
+ghost use Rattle.usbrun.specs.Written.{ways};
+ghost use Rattle.usbrun.specs.Top.{IsCommand, IsCommandOf, Ends, Cause, Exact, Completes};
 
 use crate::draft::Draft;
 use crate::head::{NoHead, read_heads};
@@ -14,50 +15,74 @@ use crate::lines::Lines;
 use crate::run::run_schedule;
 use crate::session::{Session, Stop};
 use crate::status::Status;
-use crate::writer::{Writer, hand_on};
+use crate::texts::Texts;
+use crate::writer::hand_on;
 use device_run::DeviceRun;
 use std::alloc::Global;
 use usb_descriptor::{DescSet, EpLimits, SetFault, SetParts, read_set};
 use usb_edge::{Disks, Sink, Source};
 
-/// Runs the program: its words, where its job comes from, where its answers go, where its faults are told, and its
-/// disks.
+/// Runs the program: its words, where its job comes from, where its output goes, where its faults are told, where the
+/// trace goes, and its disks.
 ///
-/// At `Ok` the source's bytes spell a job, and `out` took exactly the text of the answers of that job's schedule.
-/// The other statuses come exactly as their causes say, and `err` takes the line of the status.
-pub fn usb_top<S: Source, K: Sink, E: Sink, D: Disks>(
+/// At `Ok` the source's bytes spell a job. `trace` took exactly the text of its trace: for each line of the schedule the
+/// accesses to the controller's registers, which are a run of the controller, and then the answer. With `--regs` `out` took
+/// that text too, and else the text of the answers alone. The other statuses come exactly as their causes say, and `err`
+/// takes the line of the status.
+pub fn usb_top<S: Source, K: Sink, E: Sink, T: Sink, D: Disks>(
     alloc: Global,
     words: &[&str],
     src: &mut S,
     out: &mut K,
     err: &mut E,
+    trace: &mut T,
     disks: &mut D,
 ) -> Status
-    ensures cause { Cause result (map (λ w. w.now) words.now) (S.left src.old) (S.left src.new) (S.faults src.old) (S.faults src.new) (K.taken out.old) (K.taken out.new) (K.faults out.old) (K.faults out.new) }
-    ensures exact { Exact result (map (λ w. w.now) words.now) (S.left src.old) (S.faults src.old) (S.faults src.new) (K.faults out.old) (K.faults out.new) }
-    ensures complete { Completes result (map (λ w. w.now) words.now) (S.left src.old) (S.faults src.old) (S.faults src.new) (K.taken out.old) (K.taken out.new) (K.faults out.old) (K.faults out.new) }
+    ensures cause { Cause result (map (λ w. w.now) words.now) (ways
+        (S.left src.old) (S.left src.new) (S.faults src.old) (S.faults src.new)
+        (K.taken out.old) (K.taken out.new) (K.faults out.old) (K.faults out.new)
+        (T.taken trace.old) (T.taken trace.new) (T.faults trace.old) (T.faults trace.new)) }
+    ensures exact { Exact result (map (λ w. w.now) words.now) (ways
+        (S.left src.old) (S.left src.new) (S.faults src.old) (S.faults src.new)
+        (K.taken out.old) (K.taken out.new) (K.faults out.old) (K.faults out.new)
+        (T.taken trace.old) (T.taken trace.new) (T.faults trace.old) (T.faults trace.new)) }
+    ensures complete { Completes result (map (λ w. w.now) words.now) (ways
+        (S.left src.old) (S.left src.new) (S.faults src.old) (S.faults src.new)
+        (K.taken out.old) (K.taken out.new) (K.faults out.old) (K.faults out.new)
+        (T.taken trace.old) (T.taken trace.new) (T.faults trace.old) (T.faults trace.new)) }
     ensures errors { Tells result (E.taken err.old) (E.taken err.new) (E.faults err.old) (E.faults err.new) }
     ensures source { S.faults src.old ≤ S.faults src.new }
     ensures sink { K.faults out.old ≤ K.faults out.new }
     ensures errors_count { E.faults err.old ≤ E.faults err.new }
+    ensures traced { T.faults trace.old ≤ T.faults trace.new }
     ensures disks { disks.new ≡ disks.old }
 {
     let _ = disks;
-    let status = run_words(alloc, words, src, out);
+    let status = run_words(alloc, words, src, out, trace);
     tell(status, err);
     status
 }
 
 /// Runs the command of the words.
-fn run_words<S: Source, K: Sink>(alloc: Global, words: &[&str], src: &mut S, out: &mut K) -> Status
-    ensures cause { Cause result (map (λ w. w.now) words.now) (S.left src.old) (S.left src.new) (S.faults src.old) (S.faults src.new) (K.taken out.old) (K.taken out.new) (K.faults out.old) (K.faults out.new) }
+fn run_words<S: Source, K: Sink, T: Sink>(
+    alloc: Global,
+    words: &[&str],
+    src: &mut S,
+    out: &mut K,
+    trace: &mut T,
+) -> Status
+    ensures cause { Cause result (map (λ w. w.now) words.now) (ways
+        (S.left src.old) (S.left src.new) (S.faults src.old) (S.faults src.new)
+        (K.taken out.old) (K.taken out.new) (K.faults out.old) (K.faults out.new)
+        (T.taken trace.old) (T.taken trace.new) (T.faults trace.old) (T.faults trace.new)) }
     ensures source { S.faults src.old ≤ S.faults src.new }
     ensures sink { K.faults out.old ≤ K.faults out.new }
+    ensures traced { T.faults trace.old ≤ T.faults trace.new }
 {
-    if !is_device(words) {
-        return Status::Usage;
+    match command(words) {
+        Some(regs) => run_device(alloc, regs, src, out, trace),
+        None => Status::Usage,
     }
-    run_device(alloc, src, out)
 }
 
 #[tactic(auto, using(crate::proofs::Handed::line_told))]
@@ -70,18 +95,53 @@ fn tell<E: Sink>(status: Status, err: &mut E)
     let _ = hand_on(line.as_slice(), err);
 }
 
+/// Whether the output shows register lines, where the words are a command.
+fn command(words: &[&str]) -> Option<bool>
+    ensures { IsCommandOf (map (λ w. w.now) words.now) result }
+{
+    if is_device(words) {
+        return Some(false);
+    }
+    if is_device_regs(words) {
+        return Some(true);
+    }
+    None
+}
+
 /// Whether the words are the one word `device`.
 fn is_device(words: &[&str]) -> bool
-    ensures { IsTrue result ↔ IsDevice (map (λ w. w.now) words.now) }
+    ensures { IsTrue result ↔ IsCommand (map (λ w. w.now) words.now) false }
 {
     words.len() == 1 && words[0] == "device"
 }
 
+/// Whether the words are `device` and `--regs`.
+fn is_device_regs(words: &[&str]) -> bool
+    ensures { IsTrue result ↔ IsCommand (map (λ w. w.now) words.now) true }
+{
+    if words.len() != 2 {
+        return false;
+    }
+    let named = words[0] == "device";
+    let shown = words[1] == "--regs";
+    named && shown
+}
+
 /// Runs a job.
-fn run_device<S: Source, K: Sink>(alloc: Global, src: &mut S, out: &mut K) -> Status
-    ensures ends { Ends result (S.left src.old) (S.left src.new) (S.faults src.old) (S.faults src.new) (K.taken out.old) (K.taken out.new) (K.faults out.old) (K.faults out.new) }
+fn run_device<S: Source, K: Sink, T: Sink>(
+    alloc: Global,
+    regs: bool,
+    src: &mut S,
+    out: &mut K,
+    trace: &mut T,
+) -> Status
+    ensures ends { Ends result regs (ways
+        (S.left src.old) (S.left src.new) (S.faults src.old) (S.faults src.new)
+        (K.taken out.old) (K.taken out.new) (K.faults out.old) (K.faults out.new)
+        (T.taken trace.old) (T.taken trace.new) (T.faults trace.old) (T.faults trace.new)) }
     ensures source { S.faults src.old ≤ S.faults src.new }
     ensures sink { K.faults out.old ≤ K.faults out.new }
+    ensures traced { T.faults trace.old ≤ T.faults trace.new }
 {
     let mut lines = Lines::new();
     let draft = match read_heads(&mut lines, src) {
@@ -103,11 +163,11 @@ fn run_device<S: Source, K: Sink>(alloc: Global, src: &mut S, out: &mut K) -> St
     };
     let mut session = Session {
         lines,
-        writer: Writer::new(),
+        texts: Texts::new(regs),
         run,
     };
-    let stop = run_schedule(&mut session, src, out);
-    finish(stop, &mut session, out)
+    let stop = run_schedule(&mut session, src, out, trace);
+    finish(stop, &mut session, out, trace)
 }
 
 /// The set of descriptors of a head, where the controller takes it.
@@ -138,16 +198,17 @@ fn set_of(draft: &Draft) -> Result<DescSet, SetFault>
 }
 
 /// Hands on what waits, and tells how the run ends.
-fn finish<K: Sink>(stop: Stop, session: &mut Session, out: &mut K) -> Status
+fn finish<K: Sink, T: Sink>(stop: Stop, session: &mut Session, out: &mut K, trace: &mut T) -> Status
     requires { session.old.lines.lines + 1 < 2 ^ 32 }
-    ensures hands { Hands (K.taken out.old) (K.taken out.new) session.old.writer session.new.writer }
-    ensures finishes { Finishes stop session.old.lines.lines result session.new.writer (K.faults out.old) (K.faults out.new) }
+    ensures hands { HandsBoth (both (K.taken out.old) (T.taken trace.old)) (both (K.taken out.new) (T.taken trace.new)) session.old.texts session.new.texts }
+    ensures finishes { Finishes stop session.old.lines.lines result session.new.texts (K.faults out.old) (K.faults out.new) (T.faults trace.old) (T.faults trace.new) }
     ensures sink { K.faults out.old ≤ K.faults out.new }
+    ensures traced { T.faults trace.old ≤ T.faults trace.new }
 {
     if stop == Stop::WriteFault {
         return Status::WriteFault;
     }
-    if !session.writer.flush(out) {
+    if !session.texts.flush(out, trace) {
         return Status::WriteFault;
     }
     status_of(stop, session.lines.lines)

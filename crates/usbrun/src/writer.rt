@@ -1,19 +1,24 @@
-ghost use Rattle.std.specs.Prelude.{◌≡◌, ℕ, ◌+◌, ◌<◌, ◌≤◌, ◌↔◌, List, [], ◌++◌, false, length, take, drop, IsTrue};
+ghost use Rattle.std.specs.Prelude.{◌≡◌, ℕ, ◌+◌, ◌*◌, ◌<◌, ◌≤◌, ◌↔◌, List, [], ◌++◌, false, length, take, drop, IsTrue};
 ghost use Rattle.arrayvec.specs.ArrayVec.{array_vec_len};
 ghost use Rattle.usb_edge.specs.Stream.{Takes, Rose};
 ghost use Rattle.usb_text.specs.declared.line.Answer.TheVariants.{Bus, Reply as TheReply};
 ghost use Rattle.device_schedule.specs.Schedule.{answer_line};
 ghost use Rattle.usbrun.specs.Stream.{Hands, HasRoom};
+ghost use Rattle.usbrun.specs.Texts.{access_lines};
 
 use arrayvec::ArrayVec;
+use dwc2_regs::Access;
 use std::marker::Model;
 use usb_edge::{Sink, Wrote};
 use usb_packet::BusAnswer;
 use usb_pipe::Reply;
-use usb_text::{MOST_ANSWER, push_bus_line, push_reply_line};
+use usb_text::{MOST_ACCESS, MOST_ANSWER, Side, push_access_line, push_bus_line, push_reply_line};
 
 /// How many bytes wait at most.
 const BLOCK: usize = 32768;
+
+/// What one line of a schedule adds at most: the register lines of 400 accesses, and an answer.
+const MOST_TURN: usize = 400 * MOST_ACCESS + MOST_ANSWER;
 
 /// The text that waits to be written.
 #[derive(Drop)]
@@ -22,6 +27,8 @@ pub struct Writer {
 }
 
 impl Model for Writer {
+    ghost use Rattle.std.specs.Prelude.{ℕ, ◌≤◌, List, length};
+
     ghost Value = { List ℕ };
 
     ghost view = { λ w. w.waiting.items };
@@ -39,27 +46,62 @@ impl Writer {
         }
     }
 
-    /// Whether one answer more has room.
+    /// Whether what one line more adds has room.
     pub fn has_room(&self) -> bool
         ensures { IsTrue result ↔ HasRoom self.now }
     {
-        self.waiting.len() + MOST_ANSWER <= BLOCK
+        self.waiting.len() + MOST_TURN <= BLOCK
+    }
+
+    /// How many bytes wait.
+    pub fn len(&self) -> usize
+        ensures { result ≡ length self.now }
+    {
+        self.waiting.len()
+    }
+
+    /// What waits behind the first `from` bytes.
+    pub fn since(&self, from: usize) -> &[u8]
+        requires { from ≤ length self.now }
+        ensures bytes { result.now ≡ drop from self.now }
+        ensures length { length result.now + from ≡ length self.now }
+    {
+        &self.waiting.as_slice()[from..]
+    }
+
+    /// Puts the lines of accesses to registers behind what waits.
+    pub fn push_accesses(&mut self, accesses: &[Access])
+        requires { length self.old + 17 * length accesses.now ≤ 32768 }
+        ensures text { self.new ≡ self.old ++ access_lines accesses.now }
+        ensures length { length self.new ≤ length self.old + 17 * length accesses.now }
+    {
+        push_lines(&mut self.waiting, accesses);
     }
 
     /// Puts the line of what the device answers on the bus behind what waits.
     pub fn push_bus(&mut self, answer: &BusAnswer)
-        requires { HasRoom self.old }
-        ensures { self.new ≡ self.old ++ answer_line (Bus answer.now) }
+        requires { length self.old + 8200 ≤ 32768 }
+        ensures text { self.new ≡ self.old ++ answer_line (Bus answer.now) }
+        ensures length { length self.new ≤ length self.old + 8200 }
     {
         push_bus_line(&mut self.waiting, answer);
     }
 
     /// The same of a reply.
     pub fn push_reply(&mut self, reply: &Reply)
-        requires { HasRoom self.old }
-        ensures { self.new ≡ self.old ++ answer_line (TheReply reply.now) }
+        requires { length self.old + 8200 ≤ 32768 }
+        ensures text { self.new ≡ self.old ++ answer_line (TheReply reply.now) }
+        ensures length { length self.new ≤ length self.old + 8200 }
     {
         push_reply_line(&mut self.waiting, reply);
+    }
+
+    /// Puts a text behind what waits.
+    pub fn push_text(&mut self, text: &[u8])
+        requires { length self.old + length text.now ≤ 32768 }
+        ensures { self.new ≡ self.old ++ text.now }
+    {
+        let _ = self.waiting.try_extend_from_slice(text);
     }
 
     /// Hands on all that waits: whether the sink took it.
@@ -78,6 +120,17 @@ impl Writer {
             self.waiting = rest_of(&self.waiting, given);
             false
         }
+    }
+}
+
+/// Appends the lines of accesses.
+fn push_lines(out: &mut ArrayVec<u8, 32768>, accesses: &[Access])
+    requires { array_vec_len out.old + 17 * length accesses.now ≤ 32768 }
+    ensures items { out.new.items ≡ out.old.items ++ access_lines accesses.now }
+    ensures length { array_vec_len out.new ≤ array_vec_len out.old + 17 * length accesses.now }
+{
+    for access in accesses {
+        push_access_line(out, access, Side::Plain);
     }
 }
 

@@ -1,35 +1,38 @@
 use Rattle.std.proofs.Common.{refl, ap, ◌∙◌, arith}
-use Rattle.usbd_core.specs.Device.{Device as Run}
 use Rattle.usb_edge.proofs.Streams.{rose_within}
+use Rattle.usbrun.specs.declared.texts.Texts.{Texts}
 use Rattle.usbrun.proofs.Endings.{head_ends, set_ends, memory_ends, accepted, set_shows, run_ends}
 use Rattle.usbrun.proofs.top.run_device.Goals as goal
 
 pub returns-in-Err-clause-ends : goal.returns-in-Err-clause-ends
 returns-in-Err-clause-ends g c =
     let stops = rw c.new-lines.ensures at c.in-Err.ensures.heads in
-    rw c.no_head.ensures (head_ends c.in-Err.fault _ _ (g.S.Source.faults c.args.src.now) (g.S.Source.faults c.read_heads.new.src) (g.K.Sink.faults c.args.out.now)
-    c.read_heads.new.lines _ stops c.in-Err.ensures.ended)
+    rw c.no_head.ensures (head_ends c.in-Err.fault _ _ c.args.regs (g.S.Source.faults c.args.src.now) (g.S.Source.faults c.read_heads.new.src)
+    (g.K.Sink.faults c.args.out.now) (g.T.Sink.faults c.args.trace.now) (g.K.Sink.taken c.args.out.now) (g.T.Sink.taken c.args.trace.now)
+    c.read_heads.new.lines stops c.in-Err.ensures.ended)
 
 pub returns-in-Err-set_of-clause-ends : goal.returns-in-Err-set_of-clause-ends
 returns-in-Err-set_of-clause-ends g c =
     let heads = rw c.new-lines.ensures at c.in-Ok.ensures.heads in
-    set_ends c.in-Ok.draft _ _ c.read_heads.new.lines heads.0 c.in-Ok.ensures.ended (g.S.Source.faults c.args.src.now) (g.S.Source.faults c.read_heads.new.src)
-    (g.K.Sink.faults c.args.out.now) _ c.in-Err-set_of.fault heads.1 c.in-Err-set_of.ensures.refused
+    set_ends c.in-Ok.draft _ _ c.read_heads.new.lines heads.0 c.in-Ok.ensures.ended c.args.regs (g.S.Source.faults c.args.src.now)
+    (g.S.Source.faults c.read_heads.new.src) (g.K.Sink.faults c.args.out.now) (g.T.Sink.faults c.args.trace.now) (g.K.Sink.taken c.args.out.now)
+    (g.T.Sink.taken c.args.trace.now) c.in-Err-set_of.fault heads.1 c.in-Err-set_of.ensures.refused
 
 pub returns-in-Err-open-clause-ends : goal.returns-in-Err-open-clause-ends
 returns-in-Err-open-clause-ends g c =
     let heads = rw c.new-lines.ensures at c.in-Ok.ensures.heads in
-    memory_ends c.in-Ok.draft _ _ c.read_heads.new.lines heads.0 c.in-Ok.ensures.ended (g.S.Source.faults c.args.src.now) (g.S.Source.faults c.read_heads.new.src)
-    (g.K.Sink.faults c.args.out.now) _ heads.1 c.in-Ok-set_of.ensures.accepted
+    memory_ends c.in-Ok.draft _ _ c.read_heads.new.lines heads.0 c.in-Ok.ensures.ended c.args.regs (g.S.Source.faults c.args.src.now)
+    (g.S.Source.faults c.read_heads.new.src) (g.K.Sink.faults c.args.out.now) (g.T.Sink.faults c.args.trace.now) (g.K.Sink.taken c.args.out.now)
+    (g.T.Sink.taken c.args.trace.now) heads.1 c.in-Ok-set_of.ensures.accepted
 
 pub returns-clause-ends : goal.returns-clause-ends
 returns-clause-ends g c =
     let heads = rw c.new-lines.ensures at c.in-Ok.ensures.heads in
-    let reads = g.S.Source.faults c.args.src.now in
-    let ok = accepted c.in-Ok.draft _ _ c.read_heads.new.lines heads.0 c.in-Ok.ensures.ended reads reads reads (g.K.Sink.taken c.args.out.now) heads.1 c.in-Ok-set_of.ensures.accepted in
-    let shows = set_shows c.in-Ok.draft _ _ c.read_heads.new.lines heads.0 c.in-Ok.ensures.ended reads reads reads (g.K.Sink.taken c.args.out.now) c.in-Ok-set_of.set c.in-Ok-set_of.ensures.shows in
-    run_ends _ _ _ c.in-Ok.draft c.read_heads.new.lines heads.0 ok _ _ _ _ c.run_schedule-stop.new.session refl (ap (λ (r : Run). r.set) c.in-Ok-open.ensures ∙ shows)
-    c.run_schedule-stop.ensures.ended c.run_schedule-stop.result c.run_schedule-stop.ensures.runs _ c.finish.ensures.hands _ _ _ _ _
-    c.finish.result c.finish.ensures.finishes c.run_schedule-stop.ensures.sink c.finish.ensures.sink
+    let ok = accepted c.in-Ok.draft _ _ c.read_heads.new.lines heads.0 heads.1 c.in-Ok-set_of.ensures.accepted in
+    let shows = set_shows c.in-Ok.draft _ _ c.read_heads.new.lines heads.0 c.in-Ok-set_of.set c.in-Ok-set_of.ensures.shows in
+    run_ends _ _ _ c.in-Ok.draft c.read_heads.new.lines heads.0 ok _ _ _ _ c.run_schedule-stop.new.session c.args.regs refl
+    (ap (λ (t : Texts). t.regs) c.new.ensures) (c.in-Ok-open.ensures.set ∙ shows) c.run_schedule-stop.ensures.ended _ _ _ _ _ _
+    c.run_schedule-stop.result c.run_schedule-stop.ensures.runs _ c.finish.ensures.hands _ _ c.finish.result c.finish.ensures.finishes
+    c.run_schedule-stop.ensures.sink c.finish.ensures.sink c.run_schedule-stop.ensures.traced c.finish.ensures.traced
     (λ e. rose_within _ _ _ _ c.read_heads.ensures.count (c.run_schedule-stop.ensures.read_fault e) (omega arith))
     c.run_schedule-stop.ensures.write_fault
