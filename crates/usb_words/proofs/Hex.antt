@@ -1,9 +1,9 @@
 -- Hexadecimal text is read as the bytes that it was written for, and only so.
-use Rattle.std.proofs.Common.{◌≡◌, ℕ, ◌+◌, ◌*◌, ◌/◌, ◌%◌, ◌<◌, ◌≤◌, List, [], ◌∷◌, length, Option, Some, None, Bool, true, false, ◌&&◌, cond, leb, ltb, refl, ap, sym, ◌∙◌, arith, codes, ◌⊎◌, inl, inr, subst, eqb}
+use Rattle.std.proofs.Common.{◌≡◌, ℕ, ◌+◌, ◌*◌, ◌/◌, ◌%◌, ◌<◌, ◌≤◌, List, [], ◌∷◌, length, Option, Some, None, Bool, true, false, ◌&&◌, cond, leb, ltb, refl, ap, sym, ◌∙◌, arith, codes, ◌⊎◌, inl, inr, subst, eqb, slice_index}
 use Rattle.std.specs.List.{flat_map, list_all}
 use Rattle.std.specs.Cmp.Lexicographic.{same_text}
 use Rattle.std.specs.Str.{bytes_eq}
-use Rattle.std.proofs.lemmas.Bool.{leb-true}
+use Rattle.std.proofs.lemmas.Bool.{agree_below_at, leb-true}
 use Rattle.std.proofs.lemmas.Option.{cond_some}
 use Rattle.std.proofs.lemmas.Bool.Decides.{nat_tests}
 use Rattle.usb_words.specs.Field.{AreBytes, hex_digit, hex_pair, hex, digit_value, both, pair_value, with_byte, bytes_of_pairs, at_most, bytes_in}
@@ -119,3 +119,10 @@ pairs_are_word (b ∷ bs) h =
 pub hex_is_word : (bytes : List ℕ) → AreBytes bytes → is_word (hex bytes) ≡ true
 hex_is_word [] h = refl
 hex_is_word (b ∷ bs) h = pairs_are_word (b ∷ bs) h
+
+-- the digits as a table
+pub digit_in_table : (n : ℕ) → n < 16 → slice_index (codes "0123456789abcdef") n ≡ hex_digit n
+digit_in_table n h =
+    let same : eqb (slice_index (codes "0123456789abcdef") n) (hex_digit n) ≡ true =
+    agree_below_at (λ n. eqb (slice_index (codes "0123456789abcdef") n) (hex_digit n)) (λ n. true) 16 n refl h in
+    grind (arith, nat_tests, same)

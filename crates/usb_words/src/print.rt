@@ -41,11 +41,12 @@ fn push_pairs<const N: usize>(out: &mut ArrayVec<u8, N>, bytes: &[u8])
 }
 
 /// A hexadecimal digit, in lower case.
+#[tactic(auto, using(crate::proofs::Hex::digit_in_table))]
 pub fn hex_digit(n: u8) -> u8
     requires { n < 16 }
     ensures { result ≡ hex_digit n }
 {
-    if n < 10 { b'0' + n } else { 87 + n }
+    b"0123456789abcdef"[n as usize]
 }
 
 /// Appends a further word, with the space before it.
