@@ -14,7 +14,7 @@ use Rattle.device_schedule.specs.Job.{closed, schedule_line, schedule_text, head
 pub no_newline : (b : ℕ) (bs : List ℕ) → is_plain (b ∷ bs) ≡ true → b ≡ newline → ⊥
 no_newline b bs h e = let same : eqb b newline ≡ true = eq-eqb b newline e in let x : (not true && is_plain bs) ≡ true = rw same at h in cc
 
-both : (p q : Bool) → (p && q) ≡ true → (p ≡ true) × (q ≡ true)
+pub both : (p q : Bool) → (p && q) ≡ true → (p ≡ true) × (q ≡ true)
 both true q e = (refl, e)
 both false q e = absurd (cc)
 
@@ -25,7 +25,7 @@ other false h = refl
 pub plain_rest : (b : ℕ) (bs : List ℕ) → is_plain (b ∷ bs) ≡ true → is_plain bs ≡ true
 plain_rest b bs h = (both (not (eqb b newline)) (is_plain bs) h).1
 
-plain_first : (b : ℕ) (bs : List ℕ) → is_plain (b ∷ bs) ≡ true → eqb b newline ≡ false
+pub plain_first : (b : ℕ) (bs : List ℕ) → is_plain (b ∷ bs) ≡ true → eqb b newline ≡ false
 plain_first b bs h = other (eqb b newline) (both (not (eqb b newline)) (is_plain bs) h).0
 
 -- a line without its newline gets one

@@ -1,6 +1,6 @@
 -- A trace with one line more, and the lines of a trace.
 use Rattle.std.proofs.Common.{◌≡◌, ℕ, List, [], ◌∷◌, ◌++◌, Bool, true, false, not, ◌&&◌, ◌||◌, eqb, map, filter, refl, ap, sym, ◌∙◌, append_assoc}
-use Rattle.std.specs.List.{flat_map, list_all, AllByRecursion}
+use Rattle.std.specs.List.{flat_map, list_all, onto_first}
 use Rattle.std.proofs.lemmas.List.{append-nil}
 use Rattle.dwc2_regs.specs.declared.access.Access.{Access}
 use Rattle.controller_table.specs.State.{Table, opened}
@@ -8,13 +8,14 @@ use Rattle.usb_descriptor.specs.Set.{Set}
 use Rattle.usb_text.specs.declared.line.DevLine.{DevLine}
 use Rattle.usb_text.specs.declared.line.Answer.{Answer}
 use Rattle.usb_text.specs.declared.access.Side.TheVariants.{Plain}
-use Rattle.usb_text.specs.Line.{answer_text, IsAnswer}
+use Rattle.usb_text.specs.Line.{answer_text, newline}
 use Rattle.usb_text.specs.Plain.{is_plain}
 use Rattle.usb_text.proofs.Accesses.{is_way, is_side, begins_an_access, answer_begins, access_is_plain}
 use Rattle.usb_text.proofs.Replies.{answer_is_plain}
-use Rattle.device_schedule.specs.Schedule.{core_answer, core_state, answers, answer_line}
-use Rattle.device_schedule.specs.Trace.{Turn, IsTurn, after_turn, after_turns, AreTurns, IsTrace, register_text, turn_lines, trace_lines, ended, trace_text, turn_text, tells_access}
+use Rattle.device_schedule.specs.Schedule.{core_answer, core_state, answers, answer_line, device_text}
+use Rattle.device_schedule.specs.Trace.{Turn, IsTurn, after_turn, after_turns, AreTurns, IsTrace, register_text, turn_lines, trace_lines, ended, trace_text, turn_text, tells_access, text_lines, without_registers}
 use Rattle.device_schedule.proofs.Answers.{answers-more}
+use Rattle.device_schedule.proofs.Closed.{both, plain_first, plain_rest}
 
 map-more : {A B : Type 0} (f : A → B) (xs : List A) (x : A) → map f (xs ++ x ∷ []) ≡ map f xs ++ f x ∷ []
 map-more f [] x = refl
@@ -67,7 +68,7 @@ turn_text-parts turn =
     ∙ ap (λ t. t ++ (answer_line turn.answer ++ [])) (registers-ended turn.accesses)
     ∙ ap (λ t. flat_map (λ a. ended (register_text a)) turn.accesses ++ t) (append-nil (answer_line turn.answer))
 
--- Without the lines of accesses the answers are left.
+-- Without the lines of accesses those of the answers are left.
 
 access_tells : (a : Access) → tells_access (register_text a) ≡ true
 access_tells a = by_way a.write where
@@ -95,7 +96,7 @@ turn_left : (accesses : List Access) (a : Answer) (rest : List (List ℕ))
 turn_left [] a rest = rw (answer_tells a) refl
 turn_left (x ∷ xs) a rest = rw (access_tells x) (turn_left xs a rest)
 
-pub answers_left : (turns : List Turn) → filter (λ line. not (tells_access line)) (trace_lines turns) ≡ map answer_text (map (λ turn. turn.answer) turns)
+answers_left : (turns : List Turn) → filter is_answer (trace_lines turns) ≡ map answer_text (map (λ turn. turn.answer) turns)
 answers_left [] = refl
 answers_left (u ∷ us) = turn_left u.accesses u.answer (trace_lines us) ∙ ap (λ t. answer_text u.answer ∷ t) (answers_left us)
 
@@ -103,8 +104,34 @@ plain_registers : (accesses : List Access) (rest : List (List ℕ)) → list_all
 plain_registers [] rest h = h
 plain_registers (a ∷ more) rest h = rw (access_is_plain a Plain) (plain_registers more rest h)
 
-pub trace_is_plain : (turns : List Turn) → AllByRecursion IsAnswer (map (λ turn. turn.answer) turns) → list_all is_plain (trace_lines turns) ≡ true
-trace_is_plain [] h = refl
-trace_is_plain (u ∷ us) h =
+pub trace_is_plain : (turns : List Turn) → list_all is_plain (trace_lines turns) ≡ true
+trace_is_plain [] = refl
+trace_is_plain (u ∷ us) =
     rw (append_assoc (map register_text u.accesses) (answer_text u.answer ∷ []) (trace_lines us))
-    (plain_registers u.accesses (answer_text u.answer ∷ trace_lines us) (rw (answer_is_plain u.answer h.0) (trace_is_plain us h.1)))
+    (plain_registers u.accesses (answer_text u.answer ∷ trace_lines us) (rw (answer_is_plain u.answer) (trace_is_plain us)))
+
+-- and the same of the text
+
+first_line : (line rest : List ℕ) → is_plain line ≡ true → text_lines (line ++ newline ∷ rest) ≡ line ∷ text_lines rest
+first_line [] rest p = refl
+first_line (b ∷ bs) rest p = rw (plain_first b bs p) (ap (onto_first b) (first_line bs rest (plain_rest b bs p)))
+
+lines_again : (lines : List (List ℕ)) → list_all is_plain lines ≡ true → text_lines (flat_map ended lines) ≡ lines
+lines_again [] p = refl
+lines_again (line ∷ lines) p =
+    let parts = both (is_plain line) (list_all is_plain lines) p in
+    ap text_lines (append_assoc line (newline ∷ []) (flat_map ended lines)) ∙ first_line line (flat_map ended lines) parts.0
+    ∙ ap (λ t. line ∷ t) (lines_again lines parts.1)
+
+answers-ended : (answers : List Answer) → flat_map ended (map answer_text answers) ≡ flat_map answer_line answers
+answers-ended [] = refl
+answers-ended (a ∷ more) = ap (λ t. answer_line a ++ t) (answers-ended more)
+
+pub text_left : (turns : List Turn) → without_registers (trace_text turns) ≡ flat_map answer_line (map (λ turn. turn.answer) turns)
+text_left turns =
+    ap (λ lines. flat_map ended (filter is_answer lines)) (lines_again (trace_lines turns) (trace_is_plain turns))
+    ∙ ap (flat_map ended) (answers_left turns) ∙ answers-ended (map (λ turn. turn.answer) turns)
+
+-- of a run it is the text of the answers to its schedule
+pub run_left : (set : Set) (lines : List DevLine) (turns : List Turn) → IsTrace set lines turns → without_registers (trace_text turns) ≡ device_text set lines
+run_left set lines turns h = text_left turns ∙ ap (flat_map answer_line) h.answers

@@ -1,6 +1,6 @@
 -- The accesses to registers of a device's run, line by line, and their text among the answers.
-use Rattle.std.specs.Prelude.{◌≡◌, ◌≤◌, ℕ, List, [], ◌∷◌, ◌++◌, length, map, Bool, false, ◌==◌, ◌&&◌, ◌||◌}
-use Rattle.std.specs.List.{flat_map}
+use Rattle.std.specs.Prelude.{◌≡◌, ◌≤◌, ℕ, List, [], ◌∷◌, ◌++◌, length, map, filter, Bool, false, not, ◌==◌, ◌&&◌, ◌||◌, if◌then◌else◌}
+use Rattle.std.specs.List.{flat_map, onto_first}
 use Rattle.dwc2_regs.specs.declared.access.Access.{Access}
 use Rattle.controller_table.specs.State.{Table, opened}
 use Rattle.controller_table.specs.Bank.{most_accesses}
@@ -82,3 +82,14 @@ abbrev pub tells_access : List ℕ → Bool
 tells_access (a ∷ b ∷ rest) = ((a == 114) || (a == 119)) && (b == 32)
 tells_access (a ∷ []) = false
 tells_access [] = false
+
+-- The text without its register lines.
+
+-- the lines of a text: each ends before its newline, and the last one where the text ends
+abbrev pub text_lines : List ℕ → List (List ℕ)
+text_lines [] = []
+text_lines (b ∷ bs) = if b == newline then [] ∷ text_lines bs else onto_first b (text_lines bs)
+
+-- those of its lines that tell no access, each with a newline behind it
+abbrev pub without_registers : List ℕ → List ℕ
+without_registers text = flat_map ended (filter (λ line. not (tells_access line)) (text_lines text))

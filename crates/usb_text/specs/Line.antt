@@ -16,7 +16,7 @@ use Rattle.usb_text.specs.declared.line.Answer.{Answer}
 use Rattle.usb_text.specs.declared.line.Answer.TheVariants as answer
 use Rattle.usb_text.specs.Call.{call_words, IsCall, IsServed}
 use Rattle.usb_text.specs.Head.{head_words, IsHead}
-use Rattle.usb_text.specs.Reply.{bus_words, reply_words, IsBusAnswer, IsReply}
+use Rattle.usb_text.specs.Reply.{bus_words, reply_words}
 
 abbrev pub newline : ℕ
 newline = 10
@@ -117,7 +117,3 @@ answer_words (answer.Reply reply) = reply_words reply
 -- the text of an answer, without the newline that ends it
 abbrev pub answer_text : Answer → List ℕ
 answer_text a = spaced (answer_words a)
-
-abbrev pub IsAnswer : Answer → Type 0
-IsAnswer (answer.Bus a) = IsBusAnswer a
-IsAnswer (answer.Reply reply) = IsReply reply

@@ -1,5 +1,5 @@
 -- The words of answers: of a device on the bus, and of a call.
-use Rattle.std.specs.Prelude.{ℕ, ◌<◌, ◌^◌, List, [], ◌∷◌, codes, ⊤}
+use Rattle.std.specs.Prelude.{ℕ, List, [], ◌∷◌, codes}
 use Rattle.std.specs.Fmt.{decimal}
 use Rattle.usb_packet.specs.declared.bus.Toggle.{Toggle}
 use Rattle.usb_packet.specs.declared.bus.Toggle.TheVariants.{D0, D1}
@@ -9,7 +9,7 @@ use Rattle.usb_pipe.specs.declared.reply.Reply.{Reply}
 use Rattle.usb_pipe.specs.declared.reply.Reply.TheVariants as reply
 use Rattle.usb_pipe.specs.declared.reply.HostWord.{HostWord}
 use Rattle.usb_pipe.specs.declared.reply.HostWord.TheVariants as host
-use Rattle.usb_words.specs.Field.{AreBytes, hex}
+use Rattle.usb_words.specs.Field.{hex}
 
 abbrev pub data_name : Toggle → List ℕ
 data_name D0 = codes "data0"
@@ -61,54 +61,3 @@ reply_words reply.Nothing = codes "none" ∷ []
 reply_words reply.Closed = codes "closed" ∷ []
 reply_words (reply.Core addr configured) = codes "state" ∷ decimal addr ∷ decimal configured ∷ []
 reply_words (reply.Host word) = host_words word
-
--- a number of at most 32 bits
-abbrev pub Fits : ℕ → Type 0
-Fits n = n < 2 ^ 32
-
-abbrev pub IsBusAnswer : BusAnswer → Type 0
-IsBusAnswer bus.Done = ⊤
-IsBusAnswer bus.Ack = ⊤
-IsBusAnswer bus.Nak = ⊤
-IsBusAnswer bus.Stall = ⊤
-IsBusAnswer bus.NoAnswer = ⊤
-IsBusAnswer (bus.Data toggle packet) = AreBytes packet
-
-abbrev pub IsHostWord : HostWord → Type 0
-IsHostWord host.Empty = ⊤
-IsHostWord host.Waiting = ⊤
-IsHostWord host.Mounted = ⊤
-IsHostWord (host.NoReply stage) = Fits stage
-IsHostWord (host.Stalled stage) = Fits stage
-IsHostWord (host.BadSet rule) = Fits rule
-IsHostWord (host.TooLarge total) = Fits total
-
--- what its bytes and numbers may be
-abbrev pub IsReply : Reply → Type 0
-IsReply reply.Done = ⊤
-IsReply (reply.Took n) = Fits n
-IsReply (reply.Got bytes) = AreBytes bytes.items
-IsReply (reply.Held n) = Fits n
-IsReply (reply.Events bytes) = AreBytes bytes.items
-IsReply (reply.Report bytes) = AreBytes bytes.items
-IsReply (reply.SetReport kind bytes) = Fits kind × AreBytes bytes.items
-IsReply (reply.Idle rate protocol) = Fits rate × Fits protocol
-IsReply (reply.LineIs rate stop parity bits dtr rts) = Fits rate × Fits stop × Fits parity × Fits bits × Fits dtr × Fits rts
-IsReply (reply.Serial bits) = Fits bits
-IsReply reply.Started = ⊤
-IsReply reply.Running = ⊤
-IsReply (reply.Passed bytes) = AreBytes bytes.items
-IsReply reply.ControlPassed = ⊤
-IsReply (reply.Failed residue) = Fits residue
-IsReply reply.Phase = ⊤
-IsReply reply.Stalled = ⊤
-IsReply reply.NoReply = ⊤
-IsReply reply.Halted = ⊤
-IsReply reply.Dead = ⊤
-IsReply reply.Busy = ⊤
-IsReply reply.BadLength = ⊤
-IsReply reply.NoPipe = ⊤
-IsReply reply.Nothing = ⊤
-IsReply reply.Closed = ⊤
-IsReply (reply.Core addr configured) = Fits addr × Fits configured
-IsReply (reply.Host word) = IsHostWord word

@@ -3,7 +3,7 @@ ghost use Rattle.usb_text.specs.declared.line.Line.{Line};
 ghost use Rattle.usb_text.specs.Scheduled.{Scheduled};
 ghost use Rattle.usb_text.specs.declared.line.Answer.{Answer};
 ghost use Rattle.usb_text.specs.declared.head.HeadLine.{HeadLine};
-ghost use Rattle.usb_text.specs.Line.{line_text, IsLine, schedule_text_of, IsScheduled, answer_text, IsAnswer};
+ghost use Rattle.usb_text.specs.Line.{line_text, IsLine, schedule_text_of, IsScheduled, answer_text};
 ghost use Rattle.usb_text.specs.Head.{head_text, IsHead};
 ghost use Rattle.usb_text.specs.Plain.{is_plain};
 ghost use Rattle.usb_text.specs.declared.rules.Mode.{Mode};
@@ -14,7 +14,7 @@ ghost use Rattle.usb_text.specs.Rules.{lowest};
 ghost use Rattle.usb_text.specs.Lines.{StandsIn};
 
 /// A law: each line has one text, and each text is that of one line at most, wherever it stands. No text of
-/// a line or of an answer has a newline.
+/// a line has a newline, and none of an answer, whatever its bytes and numbers are.
 #[tactic(auto, using(crate::proofs::Lines::same_line, crate::proofs::Lines::line_is_plain, crate::proofs::Spelling::same_schedule, crate::proofs::Spelling::same_head, crate::proofs::Plain::schedule_is_plain, crate::proofs::Plain::head_is_plain, crate::proofs::Replies::answer_is_plain))]
 pub fn one_spelling()
     ensures line { (a b : Line) → IsLine a → IsLine b → line_text a ≡ line_text b → a ≡ b }
@@ -23,7 +23,7 @@ pub fn one_spelling()
     ensures plain_line { (a : Line) → IsLine a → is_plain (line_text a) ≡ true }
     ensures plain_schedule { (a : Scheduled) → IsScheduled a → is_plain (schedule_text_of a) ≡ true }
     ensures plain_head { (a : HeadLine) → IsHead a → is_plain (head_text a) ≡ true }
-    ensures plain_answer { (a : Answer) → IsAnswer a → is_plain (answer_text a) ≡ true }
+    ensures plain_answer { (a : Answer) → is_plain (answer_text a) ≡ true }
 {}
 
 /// A law: the texts of lines are exactly what breaks no rule.
