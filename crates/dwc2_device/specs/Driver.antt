@@ -1,5 +1,6 @@
 -- The driver with its controller, and how the controller moves.
-use Rattle.std.specs.Prelude.{◌≡◌, ◌≤◌, ℕ}
+use Rattle.std.specs.Prelude.{◌≡◌, ◌≤◌, ℕ, List, [], ◌∷◌, ◌++◌, true}
+use Rattle.dwc2_regs.specs.declared.access.Access.{Access}
 use Rattle.controller_table.specs.Bank.{Bank, bank_read, bank_write}
 use Rattle.dwc2_access.specs.Registers.{IsRegister}
 use Rattle.device_driver_relation.specs.Software.{Software, Joint}
@@ -20,3 +21,9 @@ pub data Moves : Bank → Bank → Type 0 where
 -- what moved to the old bank moved to the new one
 abbrev pub GoesOn : Bank → Bank → Type 0
 GoesOn old new = (start : Bank) → Moves start old → Moves start new
+
+-- The last access was the write of GINTSTS that clears USBRST and ENUMDNE, with which the device wakes: so all that a reset
+-- has to close and to empty was closed and emptied before.
+pub record Wakes (bank : Bank) : Type 0 where
+  pub before : List Access
+  pub last : bank.log ≡ before ++ record { write = true; off = 0x14; value = 0x3000 } ∷ []

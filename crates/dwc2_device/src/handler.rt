@@ -8,7 +8,7 @@ ghost use Rattle.device_driver_relation.specs.Relation.{IsSound};
 ghost use Rattle.device_driver_relation.specs.Port.{port_of, after_handler};
 ghost use Rattle.device_driver_relation.specs.Run.{with_table, run, served_by, rest_served, sent_noted, sent_served, last_served, acknowledged, cleared_ack};
 ghost use Rattle.device_driver_relation.specs.declared.software.Ready.TheVariants.{Loaded, Last};
-ghost use Rattle.dwc2_device.specs.Driver.{joint, GoesOn};
+ghost use Rattle.dwc2_device.specs.Driver.{joint, GoesOn, Wakes};
 
 use crate::DevPort;
 use crate::words::XFRC;
@@ -18,13 +18,14 @@ use dwc2_access::Regs;
 use dwc2_regs::{DIEPINT_XFRC, GINTSTS, GINTSTS_USBRST, diepint, get_field};
 
 impl<R: Regs + Drop> DevPort<R> {
-    /// One handler run. It serves a reset; or notes a stage that finished, sets the address where that was to bring one, and
+    /// One handler run. It serves a reset, and wakes with its last access; or notes a stage that finished, sets the address where that was to bring one, and
     /// else notes the last SETUP or loads the packet that waits.
     pub fn run_handler(&mut self)
         requires sound { IsSound (joint self.old) }
         requires spare { 400 ≤ self.old.bank.spare }
         requires still { self.old.bank.due ≡ [] }
         ensures port { port_of (joint self.new) ≡ after_handler (port_of (joint self.old)) }
+        ensures wakes { (port_of (joint self.old)).bus.reset ≡ true → Wakes self.new.bank }
         ensures sound { IsSound (joint self.new) }
         ensures spare { self.old.bank.spare ≤ self.new.bank.spare + 200 }
         ensures still { self.new.bank.due ≡ [] }
@@ -37,6 +38,7 @@ impl<R: Regs + Drop> DevPort<R> {
         requires spare { 200 ≤ self.old.bank.spare }
         requires still { self.old.bank.due ≡ [] }
         ensures joint { joint self.new ≡ run (joint self.old) }
+        ensures wakes { flag (value_read self.old.bank.table gintsts) GINTSTS_USBRST ≡ true → Wakes self.new.bank }
         ensures spare { self.old.bank.spare ≤ self.new.bank.spare + 200 }
         ensures still { self.new.bank.due ≡ [] }
         ensures goes { GoesOn self.old.bank self.new.bank }

@@ -1,4 +1,4 @@
-ghost use Rattle.std.specs.Prelude.{◌≡◌, ◌+◌, ◌≤◌, [], false};
+ghost use Rattle.std.specs.Prelude.{◌≡◌, ◌+◌, ◌≤◌, [], ◌∷◌, ◌++◌, true, false};
 ghost use Rattle.std.specs.Borrow.{Lends, sem};
 ghost use Rattle.dwc2_access.specs.Registers.{IsRegister};
 ghost use Rattle.dwc2_regs.specs.declared.access.TheConstants.{FS4};
@@ -95,6 +95,21 @@ impl<R: Regs + Drop> DevPort<R> {
         requires spare { 1 ≤ self.old.bank.spare }
         requires still { self.old.bank.due ≡ [] }
         ensures joint { joint self.new ≡ with_table (joint self.old) (write_table self.old.bank.table off word) }
+        ensures spare { self.old.bank.spare ≤ self.new.bank.spare + 1 }
+        ensures still { self.new.bank.due ≡ [] }
+        ensures goes { GoesOn self.old.bank self.new.bank }
+    {
+        self.regs.write(off, word);
+    }
+
+    /// The same, and the list of accesses tells it.
+    #[tactic(auto, using(crate::proofs::Goes::write_goes_on, crate::proofs::Goes::write_told))]
+    pub(crate) fn write_listed(&mut self, off: u16, word: u32)
+        requires known { IsRegister off }
+        requires spare { 1 ≤ self.old.bank.spare }
+        requires still { self.old.bank.due ≡ [] }
+        ensures joint { joint self.new ≡ with_table (joint self.old) (write_table self.old.bank.table off word) }
+        ensures told { self.new.bank.log ≡ self.old.bank.log ++ record { write = true; off = off; value = word } ∷ [] }
         ensures spare { self.old.bank.spare ≤ self.new.bank.spare + 1 }
         ensures still { self.new.bank.due ≡ [] }
         ensures goes { GoesOn self.old.bank self.new.bank }

@@ -4,7 +4,7 @@ ghost use Rattle.dwc2_regs.specs.Register.{dcfg, grstctl, gintsts};
 ghost use Rattle.controller_table.specs.Write.{after_write};
 ghost use Rattle.device_driver_relation.specs.Software.{unused};
 ghost use Rattle.device_driver_relation.specs.Run.{with_table, pipe_closed, pipes_closed, others_closed, interrupts_cleared, all_cleared, popped_all, reset_served, flush_all, reset_bits};
-ghost use Rattle.dwc2_device.specs.Driver.{joint, GoesOn};
+ghost use Rattle.dwc2_device.specs.Driver.{joint, GoesOn, Wakes};
 
 use crate::DevPort;
 use crate::receive::MOST_ENTRIES;
@@ -20,6 +20,7 @@ impl<R: Regs + Drop> DevPort<R> {
         requires spare { 27 ≤ self.old.bank.spare }
         requires still { self.old.bank.due ≡ [] }
         ensures joint { joint self.new ≡ record { table = reset_served self.old.bank.table; software = unused true } }
+        ensures wakes { Wakes self.new.bank }
         ensures spare { self.old.bank.spare ≤ self.new.bank.spare + 27 }
         ensures still { self.new.bank.due ≡ [] }
         ensures goes { GoesOn self.old.bank self.new.bank }
@@ -67,15 +68,17 @@ impl<R: Regs + Drop> DevPort<R> {
         self.write(GRSTCTL, FLUSH_ALL);
     }
 
+    #[tactic(auto, using(crate::proofs::Goes::wakes_last))]
     fn end_reset(&mut self)
         requires spare { 1 ≤ self.old.bank.spare }
         requires still { self.old.bank.due ≡ [] }
         ensures joint { joint self.new ≡ with_table (joint self.old) (after_write self.old.bank.table gintsts reset_bits) }
+        ensures wakes { Wakes self.new.bank }
         ensures spare { self.old.bank.spare ≤ self.new.bank.spare + 1 }
         ensures still { self.new.bank.due ≡ [] }
         ensures goes { GoesOn self.old.bank self.new.bank }
     {
-        self.write(GINTSTS, RESET_BITS);
+        self.write_listed(GINTSTS, RESET_BITS);
     }
 
     /// Both directions of one endpoint answer NAK and are disabled and closed.
