@@ -100,8 +100,8 @@ impl<R: Regs + Drop> DevStack<R> {
         self.port.controller()
     }
 
-    /// One handler run: it serves a reset; or notes a stage that finished, sets the address where that was the status
-    /// stage of SET_ADDRESS, and else notes the last SETUP or loads the packet that waits.
+    /// One handler run, of at most 200 accesses: it serves a reset; or notes a stage that finished, sets the address where that
+    /// was the status stage of SET_ADDRESS, and else notes the last SETUP or loads the packet that waits.
     pub fn irq(&mut self)
         requires agrees { Agrees self.old }
         requires spare { 400 ≤ self.old.port.bank.spare }
@@ -109,7 +109,7 @@ impl<R: Regs + Drop> DevStack<R> {
         ensures core { core_of self.new ≡ after_irq (core_of self.old) }
         ensures agrees { Agrees self.new }
         ensures set { self.new.set ≡ self.old.set }
-        ensures spare { self.old.port.bank.spare ≤ self.new.port.bank.spare + 400 }
+        ensures spare { self.old.port.bank.spare ≤ self.new.port.bank.spare + 200 }
         ensures still { self.new.port.bank.due ≡ [] }
         ensures goes { GoesOn self.old.port.bank self.new.port.bank }
     {

@@ -25,7 +25,7 @@ use usb_packet::{Packet, Setup, setup_of};
 use usb_pipe::Decision;
 
 impl<R: Regs + Drop> DevStack<R> {
-    /// One task run: it works the stage that finished, and then the SETUP.
+    /// One task run, of at most 40 accesses: it works the stage that finished, and then the SETUP.
     pub fn task(&mut self)
         requires agrees { Agrees self.old }
         requires spare { 400 ≤ self.old.port.bank.spare }
@@ -33,7 +33,7 @@ impl<R: Regs + Drop> DevStack<R> {
         ensures core { core_of self.new ≡ after_task self.old.set (core_of self.old) }
         ensures agrees { Agrees self.new }
         ensures set { self.new.set ≡ self.old.set }
-        ensures spare { self.old.port.bank.spare ≤ self.new.port.bank.spare + 400 }
+        ensures spare { self.old.port.bank.spare ≤ self.new.port.bank.spare + 40 }
         ensures still { self.new.port.bank.due ≡ [] }
         ensures goes { GoesOn self.old.port.bank self.new.port.bank }
     {
