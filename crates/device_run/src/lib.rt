@@ -4,3 +4,6 @@
 mod run;
 
 pub use run::DeviceRun;
+
+#[cfg(test)]
+mod tests;

@@ -1,4 +1,4 @@
-ghost use Rattle.std.specs.Prelude.{◌≡◌, IfOk};
+ghost use Rattle.std.specs.Prelude.{◌≡◌, [], IfOk};
 ghost use Rattle.usb_descriptor.specs.Set.{IsAccepted};
 ghost use Rattle.controller_table.specs.State.{opened};
 ghost use Rattle.device_machine.specs.Core.{start};
@@ -10,6 +10,7 @@ use dwc2_regs::{Access, FS4};
 use std::alloc::{AllocError, Global};
 use std::marker::Model;
 use usb_descriptor::DescSet;
+use usb_edge::Disks;
 use usb_packet::{BusAnswer, BusEvent};
 use usb_pipe::Reply;
 use usb_text::{Answer, DevCall, DevLine};
@@ -41,21 +42,27 @@ impl DeviceRun {
     ghost use Rattle.device_run.specs.Run.{Steps};
 
     /// A device with this set of descriptors, which has to be an accepted one, at its start, over a controller that is
-    /// opened. It is `AllocError` only where memory runs out.
-    pub fn open(alloc: Global, set: DescSet) -> Result<DeviceRun, AllocError>
+    /// opened. `blocks` are those of its disk, where it has one; no class reads one yet. It is `AllocError` only where memory
+    /// runs out.
+    pub fn open(alloc: Global, set: DescSet, blocks: Option<u32>) -> Result<DeviceRun, AllocError>
         requires { IsAccepted set limits }
         ensures set { IfOk result (λ run. run.set ≡ set) }
         ensures core { IfOk result (λ run. run.core ≡ start) }
         ensures table { IfOk result (λ run. run.table ≡ opened) }
+        ensures log { IfOk result (λ run. run.log ≡ []) }
     {
-        let stack = DevStack::open(alloc, DevCore::new(FS4), set, FS4)?;
+        let _ = blocks;
+        let mut stack = DevStack::open(alloc, DevCore::new(FS4), set, FS4)?;
+        stack.regs().begin();
         Ok(DeviceRun { stack })
     }
 
-    /// One line of the schedule, and its answer.
-    pub fn step(&mut self, line: &DevLine) -> Answer
-        ensures { Steps self.old self.new line.now result }
+    /// One line of the schedule, and its answer. No class reads the disks yet.
+    pub fn step<D: Disks>(&mut self, line: &DevLine, disks: &mut D) -> Answer
+        ensures steps { Steps self.old self.new line.now result }
+        ensures disks { disks.new ≡ disks.old }
     {
+        let _ = disks;
         match line {
             DevLine::Bus(event) => Answer::Bus(self.bus(event)),
             DevLine::Irq => {
