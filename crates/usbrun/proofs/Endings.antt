@@ -22,6 +22,7 @@ use Rattle.device_schedule.specs.Trace.{Turn, IsTrace, trace_text}
 use Rattle.device_schedule.specs.Job.{Job, Spells, IsAccepted, IsHeadSoFar, head_lines, schedule_text, front_text, end_line, closed, given, limits, set_fault, parts_of, is_whole, most_bytes}
 use Rattle.device_schedule.specs.Outcome.{Front, Breaks, RefusesLine, RefusesSet, EndsShort, PassesLimit, set_of}
 use Rattle.device_schedule.proofs.Closed.{closed_heads, closed_schedule, closed_both}
+use Rattle.device_schedule.proofs.Traces.{run_left}
 use Rattle.usbrun.specs.Stream.{Hands, bytes_left}
 use Rattle.usbrun.specs.Lines.{Gone, IsCut}
 use Rattle.usbrun.specs.Head.{new_lines, BreaksHead, HeadSoFar, HeadStops}
@@ -136,6 +137,7 @@ module _ (draft : Draft) (left left' : Option (List ℕ)) (new : Lines) (h : Hea
     turns = [];
     is_trace = record { lines = refl; answers = refl; run = tt };
     trace = takes-nothing traced;
+    answers = refl;
     out = by_way regs;
   } where
     by_way : (b : Bool) → Takes taken taken (program_text b (set_of h.heads) [] [])
@@ -286,6 +288,7 @@ module _ (left0 left1 left2 : Option (List ℕ)) (draft : Draft) (l1 : Lines) (h
         turns = u.turns;
         is_trace = traces r u;
         trace = all_taken took0.trace took2.trace (trace_text u.turns) waiting.trace all.trace none.1;
+        answers = run_left (set_of h.heads) u.lines u.turns (traces r u);
         out = subst (Takes took0.out took2.out) (out_is regs (set_of h.heads) u.lines u.turns (traces r u))
             (all_taken took0.out took2.out (out_text regs u.turns) waiting.out all.out none.0);
       }

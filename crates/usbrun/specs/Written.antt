@@ -5,7 +5,7 @@ use Rattle.usb_descriptor.specs.Set.{Set}
 use Rattle.usb_text.specs.declared.line.DevLine.{DevLine}
 use Rattle.usb_text.specs.declared.head.HeadLine.{HeadLine}
 use Rattle.device_schedule.specs.Schedule.{device_text}
-use Rattle.device_schedule.specs.Trace.{Turn, IsTrace, trace_text}
+use Rattle.device_schedule.specs.Trace.{Turn, IsTrace, trace_text, without_registers}
 use Rattle.device_schedule.specs.Outcome.{set_of}
 
 -- a run's source and sinks, before and after it
@@ -53,6 +53,8 @@ pub record Writes (regs : Bool) (head : List HeadLine) (schedule : List DevLine)
   pub turns : List Turn
   pub is_trace : IsTrace (set_of head) schedule turns
   pub trace : Takes w.traced w.traced' (trace_text turns)
+  -- without its register lines the trace's text is that of the answers
+  pub answers : without_registers (trace_text turns) ≡ device_text (set_of head) schedule
   pub out : Takes w.taken w.taken' (program_text regs (set_of head) schedule turns)
 
 -- a sink took the front of a text

@@ -157,7 +157,7 @@ fn run_device<S: Source, K: Sink, T: Sink>(
             };
         }
     };
-    let run = match DeviceRun::open(alloc, set) {
+    let run = match DeviceRun::open(alloc, set, None) {
         Ok(run) => run,
         Err(_) => return Status::NoMemory,
     };
