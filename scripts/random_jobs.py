@@ -2,12 +2,13 @@
 """Runs random jobs on a built `usbrun` and compares its status, its answers and what it tells with models of its own.
 
 The models do what docs/MODEL.md and docs/FORMATS.md say, and use no code of the crates. Their authors are those of the
-crates, so what both read wrongly stays unseen.
+crates, so what both read wrongly stays unseen. A job that ends with status 0 is run with `--regs` too, and its trace
+has to be a run of a model of the controller's registers.
 
     random_jobs.py PROGRAM [JOBS [SEED]]
 
-Half of the jobs have some bytes changed, so that most of these are refused. The status is 1 where a run differs; the
-first job that does is printed.
+A quarter of the jobs have some bytes changed, so that most of these are refused, and a quarter a set that may be one
+that isn't accepted. The status is 1 where a run differs; the first job that does is printed.
 """
 import random
 import re
@@ -16,6 +17,7 @@ import sys
 
 from descriptor_model import fault_of
 from device_model import PACKET, Device
+from register_model import Trace, check_trace
 
 MOST_LINE = 8400
 
@@ -141,19 +143,33 @@ def run(device, lines, start):
     return short(len(lines), text)
 
 
-def random_interface(rng, number_, free):
+def schedule_of(job):
+    """The lines between `begin` and `end` of a job that has both."""
+    lines, schedule = job.split(b"\n"), []
+    for line in lines[lines.index(b"begin") + 1 :]:
+        read = read_line(line, SCHEDULE)
+        if read[0] == "end":
+            break
+        schedule.append(read)
+    return schedule
+
+
+def random_interface(rng, number_, free, sound):
     """An interface with some of the free endpoints."""
-    codes = rng.choice([b"\xff\x00\x00", b"\xff\x00\x00", b"\x08\x06\x50", b"\x01\x03\x00", b"\x03\x01\x01", b"\x0a\x00\x00"])
+    vendor = b"\xff\x00\x00"
+    codes = rng.choice([vendor, vendor, b"\x08\x06\x50", b"\x01\x03\x00", b"\x03\x01\x01", b"\x0a\x00\x00"])
+    if sound and codes[0] != 10:
+        codes = vendor
     ends = b""
-    wanted = 2 if codes[0] in (1, 8, 10) and rng.random() < 0.8 else rng.choice([0, 1, 2])
+    wanted = 2 if codes[0] in (1, 8, 10) and rng.random() < 0.8 else rng.choice([0, 1, 2, 4])
     chosen = [free.pop(rng.randrange(len(free))) for _ in range(min(wanted, len(free)))]
-    if codes[0] in (1, 8, 10) and len(chosen) == 2:
+    if codes[0] in (1, 8, 10) and len(chosen) == 2 and not sound:
         chosen[1] = chosen[0] ^ 128
     for address in chosen:
         bulk = codes[0] in (1, 8, 10) or rng.random() < 0.5
         size = 64 if bulk else rng.choice([1, 8, 16, 64])
         ends += bytes([7, 5, address, 2 if bulk else 3, size, 0, rng.randrange(256)])
-    count = len(chosen) if rng.random() < 0.98 else rng.randrange(4)
+    count = len(chosen) if sound or rng.random() < 0.98 else rng.randrange(4)
     extra = bytes([rng.choice([2, 3, 5]), 0x24]).ljust(5, b"\0") if rng.random() < 0.2 else b""
     extra = extra[: extra[0]] if extra else b""
     other = bytes([9, 4, number_, 1, 1, 255, 0, 0, 0, 7, 5, 0x81, 3, 8, 0, 1]) if rng.random() < 0.15 else b""
@@ -166,14 +182,16 @@ def serial_port(number_):
     return control + bytes([9, 4, number_ + 1, 0, 2, 10, 0, 0, 0, 7, 5, 3, 2, 64, 0, 0, 7, 5, 0x82, 2, 64, 0, 0])
 
 
-def random_config(rng):
-    body, count, free = b"", 0, [1, 2, 0x81]
+def random_config(rng, sound):
+    """A configuration of up to three interfaces or four. A sound one is of an accepted set."""
+    body, count, free = b"", 0, [1, 2, 3, 0x81, 0x82, 0x83]
     if rng.random() < 0.2:
-        body, count = serial_port(0), 2
+        body, count, free = serial_port(0), 2, [1, 2, 0x81]
     for _ in range(rng.choice([0, 1, 1, 2, 3])):
-        body += random_interface(rng, count, free)
+        body += random_interface(rng, count, free, sound)
         count += 1
-    pad = rng.choice([0, 0, 0, 64 - 9 - len(body), 128 - 9 - len(body), rng.randrange(200)])
+    wholes = [64 * packets - 9 - len(body) for packets in (1, 2, 3, 8)]
+    pad = rng.choice([0, 0, 0, *wholes, rng.randrange(200), rng.randrange(512 - 9 - len(body))])
     while pad >= 2:
         size = min(pad, 255)
         size -= 1 if pad - size == 1 else 0
@@ -182,7 +200,7 @@ def random_config(rng):
     total = 9 + len(body)
     config = bytearray(bytes([9, 2]) + total.to_bytes(2, "little") + bytes([count, rng.choice([1, 1, 2, 255]), 0]))
     config += bytes([rng.choice([0x80, 0xC0]), 50]) + body
-    if rng.random() < 0.25:
+    if not sound and rng.random() < 0.25:
         config[rng.randrange(len(config))] = rng.choice([0, 1, 2, 3, 4, 5, 7, 9, 11, 64, 0x81, 255])
     return bytes(config)
 
@@ -216,25 +234,48 @@ def random_setup(rng, config):
     return bytes([kind, request]) + b"".join(n.to_bytes(2, "little") for n in (value, index, length))
 
 
+def likely_setup(rng, config):
+    """A request that a device with this configuration takes, if its session stands where it has to."""
+    value, index = config[5] if len(config) > 5 else 1, rng.choice([1, 2, 3, 0x81, 0x82, 0x83])
+    length = rng.choice([8, 64, 128, 255, 512, 65535])
+    kind, request, value, index, length = rng.choice(
+        [
+            (0x80, 6, 0x200, 0, length),
+            (0x80, 6, 0x200, 0, length),
+            (0x80, 6, 0x100, 0, length),
+            (0x80, 8, 0, 0, 1),
+            (0x82, 0, 0, index, 2),
+            (0x02, 3, 0, index, 0),
+            (0x02, 1, 0, index, 0),
+            (0x01, 11, 0, 0, 0),
+            (0x00, 5, rng.choice([1, 2, 127]), 0, 0),
+            (0x00, 9, value, 0, 0),
+            (0x00, 9, rng.choice([0, value]), 0, 0),
+        ]
+    )
+    return bytes([kind, request]) + b"".join(n.to_bytes(2, "little") for n in (value, index, length))
+
+
 class Lines:
     """Random lines of a schedule, most of them at the address that the device may have."""
 
     def __init__(self, rng, config):
         self.rng, self.config = rng, config
         self.weights = [rng.random() * most for most in (0.1, 1.5, 1.5, 1, 1, 1.5, 0.5)]
+        self.control_share = rng.choice([0.5, 0.85, 0.85])
+        self.stray_share = rng.choice([0, 0.02, 0.1, 0.3])
+        self.likely_share = rng.choice([0.1, 0.5, 0.9])
         self.address = 0
+        self.lines = []
 
     def next(self):
         rng = self.rng
         kind = rng.choices(["reset", "irq", "task", "setup", "out", "in", "state"], self.weights)[0]
         address = self.address if rng.random() < 0.95 else rng.choice([0, 1, 2, rng.randrange(128)])
-        endpoint = 0 if rng.random() < 0.85 else rng.randrange(5)
+        endpoint = 0 if rng.random() < self.control_share else rng.randrange(5)
         fate = "ok" if rng.random() < 0.85 else ("noack" if kind == "in" else "bad")
         if kind == "setup":
-            setup = random_setup(rng, self.config)
-            if setup[:2] == b"\x00\x05" and setup[2] < 128 and rng.random() < 0.7:
-                self.address = setup[2]
-            return f"setup {address} {setup.hex()} {fate}"
+            return f"setup {address} {self.request().hex()} {fate}"
         if kind == "out":
             body = rng.randbytes(rng.choice([0, 0, 0, 1, 8, 16, PACKET])).hex() or "-"
             return f"out {address} {endpoint} {rng.choice([0, 1, 1, 1])} {body} {fate}"
@@ -242,31 +283,82 @@ class Lines:
             self.address = 0
         return f"in {address} {endpoint} {fate}" if kind == "in" else kind
 
+    def request(self):
+        return (likely_setup if self.rng.random() < self.likely_share else random_setup)(self.rng, self.config)
+
+    def put(self, *lines):
+        """These lines at the device's address, with strays between them."""
+        for line in lines:
+            while self.rng.random() < self.stray_share:
+                self.lines.append(self.next())
+            self.lines.append(line.format(self.address))
+
+    def turn(self):
+        """What the device's software does after a stage, mostly all that is to be done."""
+        whole = ["irq", "task", "irq"]
+        self.put(*self.rng.choice([whole] * 6 + [["irq"], ["irq", "task"], ["task", "irq"], whole + ["task", "irq"]]))
+
     def control(self, setup):
-        """A whole request, with its stages, as a host and the device's software take turns."""
-        address = self.address
-        lines = [f"setup {address} {setup.hex()} ok", "irq", "task", "irq"]
-        lines += [f"in {address} 0 ok", "irq", "task", "irq"] * self.rng.choice([1, 1, 2, 4])
-        lines += [f"out {address} 0 1 - ok", "irq", "task"]
+        """A whole request as a host makes it: SETUPs up to one too many, lost acknowledgements, repeated packets."""
+        rng = self.rng
+        earlier = [self.request() for _ in range(rng.choice([0, 0, 0, 0, 0, 1, 2, 3]))]
+        for each in [*earlier, setup]:
+            self.put(f"setup {{}} {each.hex()} ok")
+        self.turn()
+        most = 1 + int.from_bytes(setup[6:], "little") // PACKET
+        for _ in range(min(most, rng.choice([1, 1, 2, 3, 8, 9]))):
+            self.put(*["in {} 0 noack"] * rng.choice([0, 0, 1, 2]), "in {} 0 ok")
+            self.turn()
         if setup[:2] == b"\x00\x05" and setup[2] < 128 and setup[3] == 0:
             self.address = setup[2]
-        return lines
+        for _ in range(rng.choice([0, 1, 1, 2]) if setup[0] & 128 else 0):
+            body = rng.randbytes(rng.choice([0, 0, 0, 8, PACKET])).hex() or "-"
+            self.put(*(f"out {{}} 0 {toggle} {body} ok" for toggle in rng.choice([[1], [1, 1], [0, 1], [1, 0, 1]])))
+            self.put(*rng.choice([[], [], ["in {} 0 ok"], ["setup {} 8008000000000100 ok"]]))
+            self.turn()
+
+    def session(self):
+        """A host that gives the device an address and configures it, and then tokens of data endpoints."""
+        self.address = 0
+        self.put("reset", "irq")
+        for request, value in ((5, self.rng.choice([1, 2, 127])), (9, self.config[5])):
+            setup = bytes([0, request, value]) + bytes(5)
+            self.put(f"setup {{}} {setup.hex()} ok", "irq", "task", "irq", "in {} 0 ok", "irq", "task")
+            self.address = value if request == 5 else self.address
+        for _ in range(self.rng.choice([1, 3, 10])):
+            self.put(self.data_token())
+            if self.rng.random() < 0.3:
+                self.control(self.request())
+
+    def data_token(self):
+        rng = self.rng
+        endpoint = rng.choice([1, 2, 3])
+        if rng.random() < 0.5:
+            return f"in {{}} {endpoint} {rng.choice(['ok', 'noack'])}"
+        body = rng.randbytes(rng.choice([0, 1, 2, 8, 9, 16, 17, PACKET])).hex() or "-"
+        return f"out {{}} {endpoint} {rng.choice([0, 1])} {body} ok"
 
 
-def random_job(rng):
+def random_job(rng, sound):
     device = b"\x12\x01" + rng.randbytes(5) + b"\x40" + rng.randbytes(9) + bytes([rng.choice([1, 1, 1, 2])])
-    config = random_config(rng)
+    config = random_config(rng, sound)
     head = [f"device {device.hex()}", f"config {config.hex()}"]
     for index in sorted(rng.sample(range(1, 6), rng.choice([0, 0, 1, 2]))):
         head.append(f"string {index} {rng.randbytes(rng.choice([2, 12, 60])).hex()}")
-    if rng.random() < 0.03:
+    if not sound and rng.random() < 0.03:
         head.append("report 0600")
-    source, lines = Lines(rng, config), []
-    for _ in range(rng.choice([3, 20, 60, 300])):
-        whole = rng.random() < 0.15
-        lines += source.control(random_setup(rng, config)) if whole else [source.next()]
-    last = rng.choice([["end", ""], ["end", ""], ["end"], [""], []])
-    return "\n".join(head + ["begin", "reset", "irq"] + lines + last).encode()
+    source, whole = Lines(rng, config), rng.choice([0.03, 0.15, 0.5])
+    source.put("reset", "irq")
+    length = rng.choice([3, 20, 60, 200])
+    while len(source.lines) < length:
+        if rng.random() < whole:
+            source.control(source.request())
+        elif len(config) > 5 and rng.random() < 0.05:
+            source.session()
+        else:
+            source.lines.append(source.next())
+    last = ["end", ""] if sound else rng.choice([["end", ""], ["end", ""], ["end"], [""], []])
+    return "\n".join(head + ["begin"] + source.lines + last).encode()
 
 
 def changed(rng, job):
@@ -293,24 +385,41 @@ def words_are_refused(program):
     return True
 
 
+def trace_of(program, job, answers):
+    """The accesses of a job's trace. Raises `Trace` where it isn't a run of the model of the registers."""
+    done = subprocess.run([program, "device", "--regs"], input=job, capture_output=True, check=False)
+    if (done.returncode, done.stderr) != (0, b""):
+        raise Trace(f"with --regs it ends {done.returncode} {done.stderr!r}")
+    return check_trace(schedule_of(job), done.stdout.decode(), answers.decode())
+
+
 def main():
     program = sys.argv[1]
     if not words_are_refused(program):
         return 1
     jobs = int(sys.argv[2]) if len(sys.argv) > 2 else 400
     rng = random.Random(int(sys.argv[3]) if len(sys.argv) > 3 else 1)
-    statuses = {}
+    statuses, accesses = {}, 0
     for count in range(jobs):
-        job = random_job(rng) if count % 2 else changed(rng, random_job(rng))
+        job = random_job(rng, sound=count % 2 == 1)
+        if count % 4 == 0:
+            job = changed(rng, job)
         done = subprocess.run([program, "device"], input=job, capture_output=True, check=False)
         got = (done.returncode, done.stdout, done.stderr)
         if got != expected(job):
             sys.stdout.buffer.write(job)
             print(f"job {count} differs: {got[0]} {got[2]!r}, and not {expected(job)[0]} {expected(job)[2]!r}")
             return 1
+        try:
+            accesses += trace_of(program, job, done.stdout) if done.returncode == 0 else 0
+        except Trace as wrong:
+            sys.stdout.buffer.write(job)
+            print(f"the trace of job {count} differs: {wrong}")
+            return 1
         statuses[done.returncode] = statuses.get(done.returncode, 0) + 1
     told = ", ".join(f"{count} with status {status}" for status, count in sorted(statuses.items()))
     print(f"random jobs: {jobs} of {jobs} agree ({told})")
+    print(f"register accesses: {accesses} checked in {statuses.get(0, 0)} traces")
     return 0
 
 
