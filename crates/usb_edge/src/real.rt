@@ -140,4 +140,8 @@ impl Sink for NoSink {
     {
         Wrote::Bytes(bytes.len())
     }
+
+    fn drops_all(&self) -> bool {
+        true
+    }
 }

@@ -1,4 +1,4 @@
-ghost use Rattle.std.specs.Prelude.{◌≡◌, ℕ, ◌^◌, ◌<◌, ◌≤◌, List, [], Option, length, take};
+ghost use Rattle.std.specs.Prelude.{◌≡◌, ℕ, ◌^◌, ◌<◌, ◌≤◌, List, [], Option, None, length, take, IsTrue};
 ghost use Rattle.usb_edge.specs.Stream.{Reads, Takes, Rose, IsAtEnd, last_count};
 ghost use Rattle.usb_edge.specs.Outcome.{IfGot, IfWrote};
 
@@ -55,4 +55,11 @@ pub trait Sink {
         ensures failed { result ≡ Wrote.Failed → Rose (faults self.old) (faults self.new) × (taken self.new ≡ taken self.old) }
         ensures count { faults self.old ≤ faults self.new }
         ensures last { faults self.new ≤ last_count };
+
+    /// Whether it drops all that it takes, so that nothing has to be handed to it. Such a sink tells no content.
+    fn drops_all(&self) -> bool
+        ensures { IsTrue result → taken self.now ≡ None }
+    {
+        false
+    }
 }

@@ -49,10 +49,16 @@ fn real_sinks(rt: HostRuntime) {
     );
 }
 
-/// What is dropped is taken whole.
+/// What is dropped is taken whole, and that it is dropped is said.
 #[test]
 fn nothing_kept(rt: HostRuntime) {
     let mut sink = NoSink::new();
     assert_eq!(rt; write_once(&mut sink, &[1, 2, 3]), Wrote::Bytes(3));
     assert_eq!(rt; write_once(&mut sink, &[4, 5, 6]), Wrote::Bytes(3));
+    assert!(rt; is_dropped(&sink));
+    assert!(rt; !is_dropped(&StdoutSink::new(rt.stdout())));
+}
+
+fn is_dropped<K: Sink>(sink: &K) -> bool {
+    sink.drops_all()
 }
