@@ -11,25 +11,26 @@ use Rattle.usb_packet.specs.declared.bus.Toggle.TheVariants.{D0, D1}
 use Rattle.usb_packet.specs.declared.bus.BusEvent.TheVariants as event
 use Rattle.usb_words.specs.Field.{pieces, is_numeral, read_on, number_of, digit_value, pair_value, bytes_of_pairs, with_byte, bytes_in, exactly, fate_of}
 use Rattle.usb_words.proofs.Decimal.{and_true, number_only}
+use Rattle.line_rules.specs.declared.kinds.Kind.{Kind}
+use Rattle.line_rules.specs.declared.kinds.Kind.TheVariants as kind
+use Rattle.line_rules.specs.declared.kinds.HeadKind.{HeadKind}
+use Rattle.line_rules.specs.declared.kinds.HeadKind.TheVariants as head_kind
+use Rattle.line_rules.specs.declared.rules.Field.{Field}
+use Rattle.line_rules.specs.declared.rules.Field.TheVariants.{Bytes}
+use Rattle.line_rules.specs.declared.rules.Mode.TheVariants as mode
+use Rattle.line_rules.specs.declared.rules.Place.TheVariants as place
+use Rattle.line_rules.specs.Kinds.{kind_of, head_kind_of, bad, noack}
+use Rattle.line_rules.specs.Rules.{rule_1, rule_2, has_words, after_name, first_of, schedule_row, head_row, schedule_row_of, head_row_of, fields_of, is_empty, is_number, is_hex_digit, is_pairs, is_bytes, is_either, all_keep, unless, lowest}
+use Rattle.line_rules.proofs.Judged.{lowest_in}
 use Rattle.usb_text.specs.declared.line.DevLine.TheVariants.{Bus, Irq, Task, Call}
 use Rattle.usb_text.specs.declared.call.DevCall.TheVariants as call
 use Rattle.usb_text.specs.Scheduled.{Scheduled}
 use Rattle.usb_text.specs.Scheduled.{Device, End}
-use Rattle.usb_text.specs.declared.line.Kind.{Kind}
-use Rattle.usb_text.specs.declared.line.Kind.TheVariants as kind
 use Rattle.usb_text.specs.declared.head.HeadLine.{HeadLine}
 use Rattle.usb_text.specs.declared.head.HeadLine.TheVariants as head
-use Rattle.usb_text.specs.declared.head.HeadKind.{HeadKind}
-use Rattle.usb_text.specs.declared.head.HeadKind.TheVariants as head_kind
-use Rattle.usb_text.specs.declared.rules.Field.{Field}
-use Rattle.usb_text.specs.declared.rules.Field.TheVariants.{Bytes}
-use Rattle.usb_text.specs.declared.rules.Mode.TheVariants as mode
-use Rattle.usb_text.specs.declared.rules.Place.TheVariants as place
-use Rattle.usb_text.specs.Line.{bad, noack, schedule_text_of, IsScheduled}
-use Rattle.usb_text.specs.Reading.{kind_of, three, five, toggle_of, setup_words, out_words, in_words, alone, fields_line, words_line, line_of}
-use Rattle.usb_text.specs.Head.{head_text, IsHead, head_kind_of, one, two, bytes_word, text_words, head_fields, head_words_line, head_of}
-use Rattle.usb_text.specs.Rules.{rule_1, rule_2, has_words, after_name, first_of, schedule_row, head_row, schedule_row_of, head_row_of, fields_of, is_empty, is_number, is_hex_digit, is_pairs, is_bytes, is_either, all_keep, unless, lowest}
-use Rattle.usb_text.proofs.Judged.{lowest_in}
+use Rattle.usb_text.specs.Line.{schedule_text_of, IsScheduled}
+use Rattle.usb_text.specs.Reading.{three, five, toggle_of, setup_words, out_words, in_words, alone, fields_line, words_line, line_of}
+use Rattle.usb_text.specs.Head.{head_text, IsHead, one, two, bytes_word, text_words, head_fields, head_words_line, head_of}
 use Rattle.usb_text.proofs.Read.{line_only}
 use Rattle.usb_text.proofs.Heads.{head_only}
 

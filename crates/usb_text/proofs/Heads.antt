@@ -11,11 +11,12 @@ use Rattle.usb_words.specs.Field.{HasBytes, space, pieces, spaced, hex, number_o
 use Rattle.usb_words.proofs.Hex.{is_word, hex_again, hex_only, hex_is_word}
 use Rattle.usb_words.proofs.Decimal.{and_true, number_again, number_only, decimal_is_word}
 use Rattle.usb_words.proofs.Spaced.{pieces-spaced}
+use Rattle.line_rules.specs.declared.kinds.HeadKind.{HeadKind}
+use Rattle.line_rules.specs.declared.kinds.HeadKind.TheVariants as kind
+use Rattle.line_rules.specs.Kinds.{head_kind_of}
 use Rattle.usb_text.specs.declared.head.HeadLine.{HeadLine}
 use Rattle.usb_text.specs.declared.head.HeadLine.TheVariants.{Device, Config, Text, Report, Begin}
-use Rattle.usb_text.specs.declared.head.HeadKind.{HeadKind}
-use Rattle.usb_text.specs.declared.head.HeadKind.TheVariants as kind
-use Rattle.usb_text.specs.Head.{head_words, head_text, most_device, most_config, least_text, most_text, most_report, most_index, IsHead, head_kind_of, of_device, of_config, of_report, from_one, of_text, text_words, one, two, bytes_word, head_fields, head_words_line, head_of}
+use Rattle.usb_text.specs.Head.{head_words, head_text, most_device, most_config, least_text, most_text, most_report, most_index, IsHead, of_device, of_config, of_report, from_one, of_text, text_words, one, two, bytes_word, head_fields, head_words_line, head_of}
 use Rattle.usb_text.proofs.Read.{chosen}
 
 some_again : (least : ℕ) (bytes : List ℕ) → least ≤ length bytes → at_least least (Some bytes) ≡ Some bytes

@@ -13,20 +13,21 @@ use Rattle.usb_words.specs.Field.{AreBytes, HasBytes, space, pieces, spaced, hex
 use Rattle.usb_words.proofs.Hex.{is_seen, is_word, two_no_dash}
 use Rattle.usb_words.proofs.Decimal.{and_true, numeral_again, value_again}
 use Rattle.usb_words.proofs.Spaced.{pieces-spaced}
+use Rattle.line_rules.specs.declared.rules.Field.TheVariants.{Bytes}
+use Rattle.line_rules.specs.declared.rules.Mode.TheVariants as mode
+use Rattle.line_rules.specs.declared.rules.Place.TheVariants as place
+use Rattle.line_rules.specs.Kinds.{kind_of, head_kind_of, bad, noack}
+use Rattle.line_rules.specs.Rules.{rule_1, rule_2, is_printable, first_of, schedule_row_of, head_row_of, is_empty, is_number, is_hex_digit, is_bytes, is_either, lowest}
+use Rattle.line_rules.proofs.Judged.{lowest_in}
 use Rattle.usb_text.specs.declared.line.DevLine.TheVariants.{Bus, Irq, Task, Call}
 use Rattle.usb_text.specs.declared.call.DevCall.TheVariants as call
 use Rattle.usb_text.specs.Scheduled.{Scheduled}
 use Rattle.usb_text.specs.Scheduled.{Device, End}
 use Rattle.usb_text.specs.declared.head.HeadLine.{HeadLine}
 use Rattle.usb_text.specs.declared.head.HeadLine.TheVariants as head
-use Rattle.usb_text.specs.declared.rules.Field.TheVariants.{Bytes}
-use Rattle.usb_text.specs.declared.rules.Mode.TheVariants as mode
-use Rattle.usb_text.specs.declared.rules.Place.TheVariants as place
-use Rattle.usb_text.specs.Line.{fate_text, bad, noack, toggle_text, schedule_words_of, schedule_text_of, IsScheduled}
-use Rattle.usb_text.specs.Head.{head_words, head_text, IsHead, head_of, head_kind_of}
-use Rattle.usb_text.specs.Reading.{line_of, kind_of}
-use Rattle.usb_text.specs.Rules.{rule_1, rule_2, is_printable, first_of, schedule_row_of, head_row_of, is_empty, is_number, is_hex_digit, is_bytes, is_either, lowest}
-use Rattle.usb_text.proofs.Judged.{lowest_in}
+use Rattle.usb_text.specs.Line.{fate_text, toggle_text, schedule_words_of, schedule_text_of, IsScheduled}
+use Rattle.usb_text.specs.Head.{head_words, head_text, IsHead, head_of}
+use Rattle.usb_text.specs.Reading.{line_of}
 use Rattle.usb_text.proofs.Printed.{schedule_words_are_words}
 use Rattle.usb_text.proofs.Heads.{head_words_are_words, head_only}
 use Rattle.usb_text.proofs.Read.{line_only}

@@ -3,8 +3,6 @@ pub mod Read
 pub mod Heads
 pub mod Plain
 pub mod Spelling
-pub mod Walks
-pub mod Judged
 pub mod Kept
 pub mod Broken
 pub mod Lines

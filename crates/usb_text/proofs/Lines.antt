@@ -2,10 +2,11 @@
 use Rattle.std.proofs.Common.{◌≡◌, ℕ, List, [], ◌∷◌, true, Option, Some, None, length, ◌≤◌, refl, ap, sym, ◌∙◌, arith, codes, subst}
 use Rattle.std.specs.Fmt.{decimal}
 use Rattle.usb_words.specs.Field.{pieces, hex}
-use Rattle.usb_text.specs.declared.rules.Mode.{Mode}
-use Rattle.usb_text.specs.declared.rules.Mode.TheVariants as mode
-use Rattle.usb_text.specs.declared.rules.Place.{Place}
-use Rattle.usb_text.specs.declared.rules.Place.TheVariants as place
+use Rattle.line_rules.specs.declared.rules.Mode.{Mode}
+use Rattle.line_rules.specs.declared.rules.Mode.TheVariants as mode
+use Rattle.line_rules.specs.declared.rules.Place.{Place}
+use Rattle.line_rules.specs.declared.rules.Place.TheVariants as place
+use Rattle.line_rules.specs.Rules.{most_line, lowest}
 use Rattle.usb_text.specs.declared.head.HeadLine.{HeadLine}
 use Rattle.usb_text.specs.declared.head.HeadLine.TheVariants as head
 use Rattle.usb_text.specs.declared.line.DevLine.TheVariants.{Bus, Irq, Task, Call}
@@ -17,7 +18,6 @@ use Rattle.usb_text.specs.Head.{head_text, IsHead, head_of}
 use Rattle.usb_text.specs.Line.{line_text, IsInRange, IsLine, schedule_text_of, IsScheduled}
 use Rattle.usb_text.specs.Reading.{line_of}
 use Rattle.usb_text.specs.Plain.{is_plain}
-use Rattle.usb_text.specs.Rules.{most_line, lowest}
 use Rattle.usb_text.specs.Lines.{StandsIn, of_head, of_schedule, line_in}
 use Rattle.usb_text.proofs.Printed.{cut_again, line_again}
 use Rattle.usb_text.proofs.Read.{line_only}

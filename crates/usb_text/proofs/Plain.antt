@@ -11,16 +11,17 @@ use Rattle.usb_packet.specs.declared.bus.BusEvent.TheVariants as event
 use Rattle.usb_words.specs.Field.{space, spaced, hex, hex_pair}
 use Rattle.usb_words.proofs.Hex.{is_seen, is_word}
 use Rattle.usb_words.proofs.Decimal.{and_true}
+use Rattle.line_rules.specs.Kinds.{bad, noack}
+use Rattle.line_rules.specs.Rules.{most_line}
 use Rattle.usb_text.specs.declared.line.DevLine.TheVariants.{Bus, Irq, Task, Call}
 use Rattle.usb_text.specs.declared.call.DevCall.TheVariants as call
 use Rattle.usb_text.specs.Scheduled.{Scheduled}
 use Rattle.usb_text.specs.Scheduled.{Device, End}
 use Rattle.usb_text.specs.declared.head.HeadLine.{HeadLine}
 use Rattle.usb_text.specs.declared.head.HeadLine.TheVariants as head
-use Rattle.usb_text.specs.Line.{newline, fate_text, bad, noack, toggle_text, schedule_words_of, schedule_text_of, IsScheduled}
+use Rattle.usb_text.specs.Line.{newline, fate_text, toggle_text, schedule_words_of, schedule_text_of, IsScheduled}
 use Rattle.usb_text.specs.Head.{head_words, head_text, IsHead}
 use Rattle.usb_text.specs.Plain.{is_plain}
-use Rattle.usb_text.specs.Rules.{most_line}
 use Rattle.usb_text.proofs.Printed.{schedule_words_are_words}
 use Rattle.usb_text.proofs.Heads.{head_words_are_words}
 

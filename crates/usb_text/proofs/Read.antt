@@ -11,14 +11,15 @@ use Rattle.usb_packet.specs.declared.bus.BusEvent.TheVariants as event
 use Rattle.usb_words.specs.Field.{space, pieces, spaced, number_of, bytes_in, exactly, fate_of}
 use Rattle.usb_words.proofs.Hex.{hex_only}
 use Rattle.usb_words.proofs.Decimal.{number_only}
+use Rattle.line_rules.specs.declared.kinds.Kind.{Kind}
+use Rattle.line_rules.specs.declared.kinds.Kind.TheVariants as kind
+use Rattle.line_rules.specs.Kinds.{kind_of, bad, noack}
 use Rattle.usb_text.specs.declared.line.DevLine.TheVariants.{Bus, Irq, Task, Call}
 use Rattle.usb_text.specs.declared.call.DevCall.TheVariants as call
 use Rattle.usb_text.specs.Scheduled.{Scheduled}
 use Rattle.usb_text.specs.Scheduled.{Device, End}
-use Rattle.usb_text.specs.declared.line.Kind.{Kind}
-use Rattle.usb_text.specs.declared.line.Kind.TheVariants as kind
-use Rattle.usb_text.specs.Line.{fate_text, bad, noack, toggle_text, most_address, most_endpoint, schedule_words_of, schedule_text_of, IsScheduled}
-use Rattle.usb_text.specs.Reading.{kind_of, three, five, toggle_of, setup_line, setup_words, out_line, out_words, in_line, in_words, alone, fields_line, words_line, line_of}
+use Rattle.usb_text.specs.Line.{fate_text, toggle_text, most_address, most_endpoint, schedule_words_of, schedule_text_of, IsScheduled}
+use Rattle.usb_text.specs.Reading.{three, five, toggle_of, setup_line, setup_words, out_line, out_words, in_line, in_words, alone, fields_line, words_line, line_of}
 use Rattle.usb_text.proofs.Printed.{line_again}
 
 -- the first word of each kind of line

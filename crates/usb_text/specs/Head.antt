@@ -1,12 +1,12 @@
 -- The lines of a job's head: its descriptors and strings, and the line that ends it.
 use Rattle.std.specs.Prelude.{ℕ, ◌≤◌, List, [], ◌∷◌, codes, if◌then◌else◌, nat_le, Option, Some, None, ⊤}
-use Rattle.std.specs.Str.{bytes_eq}
 use Rattle.std.specs.Fmt.{decimal}
 use Rattle.usb_words.specs.Field.{HasBytes, pieces, spaced, none_left, hex, number_of, bytes_in, at_least}
+use Rattle.line_rules.specs.declared.kinds.HeadKind.{HeadKind}
+use Rattle.line_rules.specs.declared.kinds.HeadKind.TheVariants as kind
+use Rattle.line_rules.specs.Kinds.{head_kind_of}
 use Rattle.usb_text.specs.declared.head.HeadLine.{HeadLine}
 use Rattle.usb_text.specs.declared.head.HeadLine.TheVariants.{Device, Config, Text, Report, Begin}
-use Rattle.usb_text.specs.declared.head.HeadKind.{HeadKind}
-use Rattle.usb_text.specs.declared.head.HeadKind.TheVariants as kind
 
 -- `device HEX`, `config HEX`, `string I HEX`, `report HEX`, `begin`
 abbrev pub head_words : HeadLine → List (List ℕ)
@@ -47,17 +47,7 @@ IsHead (Text index body) = (1 ≤ index) × (index ≤ most_index) × HasBytes l
 IsHead (Report bytes) = HasBytes 1 most_report bytes.items
 IsHead Begin = ⊤
 
--- how a line of the head is read: by its words
-abbrev pub head_kind_of : List ℕ → Option HeadKind
-head_kind_of name =
-    if bytes_eq name (codes "device") then Some kind.Device
-    else (if bytes_eq name (codes "config") then Some kind.Config
-    else (if bytes_eq name (codes "string") then Some kind.Text
-    else (if bytes_eq name (codes "report") then Some kind.Report
-    else (if bytes_eq name (codes "begin") then Some kind.Begin
-    else None))))
-
--- exactly one word, exactly two
+-- how a line of the head is read: by its words. Exactly one word, exactly two
 abbrev pub one : List (List ℕ) → Option (List ℕ)
 one (a ∷ []) = Some a
 one _ = None

@@ -5,6 +5,4 @@ pub mod Scheduled
 pub mod Line
 pub mod Reading
 pub mod Plain
-pub mod Rules
 pub mod Lines
-pub mod Access

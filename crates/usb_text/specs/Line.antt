@@ -6,6 +6,8 @@ use Rattle.usb_packet.specs.declared.bus.Toggle.TheVariants.{D0, D1}
 use Rattle.usb_packet.specs.declared.bus.BusEvent.{BusEvent}
 use Rattle.usb_packet.specs.declared.bus.BusEvent.TheVariants as event
 use Rattle.usb_words.specs.Field.{AreBytes, spaced, hex}
+pub use Rattle.usb_words.specs.Field.{newline}
+use Rattle.line_rules.specs.Kinds.{bad, noack}
 use Rattle.usb_text.specs.declared.line.DevLine.{DevLine}
 use Rattle.usb_text.specs.declared.line.DevLine.TheVariants.{Bus, Irq, Task, Call}
 use Rattle.usb_text.specs.Scheduled.{Scheduled}
@@ -18,9 +20,6 @@ use Rattle.usb_text.specs.Call.{call_words, IsCall, IsServed}
 use Rattle.usb_text.specs.Head.{head_words, IsHead}
 use Rattle.usb_text.specs.Reply.{bus_words, reply_words}
 
-abbrev pub newline : ℕ
-newline = 10
-
 -- the greatest device address and the greatest endpoint number (USB 2.0, 8.3.2.1 and 8.3.2.2)
 abbrev pub most_address : ℕ
 most_address = 127
@@ -32,14 +31,6 @@ most_endpoint = 15
 abbrev pub fate_text : List ℕ → Bool → List ℕ
 fate_text other true = codes "ok"
 fate_text other false = other
-
--- a packet that was damaged
-abbrev pub bad : List ℕ
-bad = codes "bad"
-
--- data that the host didn't acknowledge
-abbrev pub noack : List ℕ
-noack = codes "noack"
 
 abbrev pub toggle_text : Toggle → List ℕ
 toggle_text D0 = codes "0"

@@ -1,9 +1,9 @@
 -- The lines of each mode and place, and how they are read.
 use Rattle.std.specs.Prelude.{ℕ, List, Option, Some, None, ⊤}
-use Rattle.usb_text.specs.declared.rules.Mode.{Mode}
-use Rattle.usb_text.specs.declared.rules.Mode.TheVariants as mode
-use Rattle.usb_text.specs.declared.rules.Place.{Place}
-use Rattle.usb_text.specs.declared.rules.Place.TheVariants as place
+use Rattle.line_rules.specs.declared.rules.Mode.{Mode}
+use Rattle.line_rules.specs.declared.rules.Mode.TheVariants as mode
+use Rattle.line_rules.specs.declared.rules.Place.{Place}
+use Rattle.line_rules.specs.declared.rules.Place.TheVariants as place
 use Rattle.usb_text.specs.declared.head.HeadLine.{HeadLine}
 use Rattle.usb_text.specs.Scheduled.{Scheduled}
 use Rattle.usb_text.specs.Scheduled as schedule

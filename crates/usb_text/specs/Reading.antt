@@ -5,26 +5,14 @@ use Rattle.usb_packet.specs.declared.bus.Toggle.{Toggle}
 use Rattle.usb_packet.specs.declared.bus.Toggle.TheVariants.{D0, D1}
 use Rattle.usb_packet.specs.declared.bus.BusEvent.TheVariants as event
 use Rattle.usb_words.specs.Field.{pieces, none_left, number_of, bytes_in, exactly, fate_of}
+use Rattle.line_rules.specs.declared.kinds.Kind.{Kind}
+use Rattle.line_rules.specs.declared.kinds.Kind.TheVariants as kind
+use Rattle.line_rules.specs.Kinds.{kind_of, bad, noack}
 use Rattle.usb_text.specs.declared.line.DevLine.TheVariants.{Bus, Irq, Task, Call}
 use Rattle.usb_text.specs.declared.call.DevCall.TheVariants as call
 use Rattle.usb_text.specs.Scheduled.{Scheduled}
 use Rattle.usb_text.specs.Scheduled.{Device, End}
-use Rattle.usb_text.specs.declared.line.Kind.{Kind}
-use Rattle.usb_text.specs.declared.line.Kind.TheVariants as kind
-use Rattle.usb_text.specs.Line.{most_address, most_endpoint, bad, noack}
-
--- the kind of line that a first word names
-abbrev pub kind_of : List ℕ → Option Kind
-kind_of name =
-    if bytes_eq name (codes "in") then Some kind.In
-    else (if bytes_eq name (codes "out") then Some kind.Out
-    else (if bytes_eq name (codes "setup") then Some kind.Setup
-    else (if bytes_eq name (codes "irq") then Some kind.Irq
-    else (if bytes_eq name (codes "task") then Some kind.Task
-    else (if bytes_eq name (codes "reset") then Some kind.Reset
-    else (if bytes_eq name (codes "end") then Some kind.End
-    else (if bytes_eq name (codes "state") then Some kind.State
-    else None)))))))
+use Rattle.usb_text.specs.Line.{most_address, most_endpoint}
 
 -- exactly three words, exactly five
 abbrev pub three : List (List ℕ) → Option (List ℕ × List ℕ × List ℕ)

@@ -1,10 +1,12 @@
 ghost use Rattle.std.specs.Prelude.{◌≡◌, IfOk, IfErr};
 ghost use Rattle.std.specs.Option.{option_map};
 ghost use Rattle.usb_words.specs.Field.{number_of};
+ghost use Rattle.line_rules.specs.Kinds.{head_kind_of};
 ghost use Rattle.usb_text.specs.declared.head.HeadLine.{HeadLine};
-ghost use Rattle.usb_text.specs.Head.{head_text, IsHead, one, two, bytes_word, text_words, from_one, head_kind_of, head_fields, head_of};
+ghost use Rattle.usb_text.specs.Head.{head_text, IsHead, one, two, bytes_word, text_words, from_one, head_fields, head_of};
 
 use arrayvec::ArrayVec;
+use line_rules::{HeadKind, head_kind_of};
 use usb_words::{Words, read_hex, small_number};
 
 /// A line of a job's head.
@@ -22,16 +24,6 @@ pub enum HeadLine {
     Begin,
 }
 
-/// What a line's first word says that it is.
-#[derive(Clone, Copy)]
-pub enum HeadKind {
-    Device,
-    Config,
-    Text,
-    Report,
-    Begin,
-}
-
 /// The line of the head that these bytes are the text of.
 pub fn head_of(line: &[u8]) -> Option<HeadLine>
     ensures { result ≡ head_of line.now }
@@ -40,25 +32,6 @@ pub fn head_of(line: &[u8]) -> Option<HeadLine>
     let name = words.next()?;
     let kind = head_kind_of(name)?;
     head_fields(kind, &mut words)
-}
-
-/// The kind of line that a first word names.
-pub fn head_kind_of(name: &[u8]) -> Option<HeadKind>
-    ensures { result ≡ head_kind_of name.now }
-{
-    if name == b"device".as_slice() {
-        Some(HeadKind::Device)
-    } else if name == b"config".as_slice() {
-        Some(HeadKind::Config)
-    } else if name == b"string".as_slice() {
-        Some(HeadKind::Text)
-    } else if name == b"report".as_slice() {
-        Some(HeadKind::Report)
-    } else if name == b"begin".as_slice() {
-        Some(HeadKind::Begin)
-    } else {
-        None
-    }
 }
 
 /// Reads the words after a line's name.

@@ -1,4 +1,12 @@
 ghost use Rattle.std.specs.Prelude.{◌≡◌, ℕ, List, true, None};
+ghost use Rattle.dwc2_regs.specs.declared.access.Access.{Access};
+ghost use Rattle.register_text.specs.declared.access.Side.{Side};
+ghost use Rattle.register_text.specs.Access.{access_text, IsAccess};
+ghost use Rattle.line_rules.specs.declared.rules.Mode.{Mode};
+ghost use Rattle.line_rules.specs.declared.rules.Mode.TheVariants as mode;
+ghost use Rattle.line_rules.specs.declared.rules.Place.{Place};
+ghost use Rattle.line_rules.specs.declared.rules.Place.TheVariants as place;
+ghost use Rattle.line_rules.specs.Rules.{lowest};
 ghost use Rattle.usb_text.specs.declared.line.Line.{Line};
 ghost use Rattle.usb_text.specs.Scheduled.{Scheduled};
 ghost use Rattle.usb_text.specs.declared.line.Answer.{Answer};
@@ -6,11 +14,6 @@ ghost use Rattle.usb_text.specs.declared.head.HeadLine.{HeadLine};
 ghost use Rattle.usb_text.specs.Line.{line_text, IsLine, schedule_text_of, IsScheduled, answer_text};
 ghost use Rattle.usb_text.specs.Head.{head_text, IsHead};
 ghost use Rattle.usb_text.specs.Plain.{is_plain};
-ghost use Rattle.usb_text.specs.declared.rules.Mode.{Mode};
-ghost use Rattle.usb_text.specs.declared.rules.Mode.TheVariants as mode;
-ghost use Rattle.usb_text.specs.declared.rules.Place.{Place};
-ghost use Rattle.usb_text.specs.declared.rules.Place.TheVariants as place;
-ghost use Rattle.usb_text.specs.Rules.{lowest};
 ghost use Rattle.usb_text.specs.Lines.{StandsIn};
 
 /// A law: each line has one text, and each text is that of one line at most, wherever it stands. No text of
@@ -35,4 +38,12 @@ pub fn texts_keep_rules()
     ensures in_place { (m : Mode) (p : Place) (bytes : List ℕ) → lowest m p bytes ≡ None → (a : Line) × (bytes ≡ line_text a) × IsLine a × StandsIn m p a }
     ensures in_schedule { (bytes : List ℕ) → lowest mode.Device place.Schedule bytes ≡ None → (a : Scheduled) × (bytes ≡ schedule_text_of a) × IsScheduled a }
     ensures in_head { (bytes : List ℕ) → lowest mode.Device place.Head bytes ≡ None → (a : HeadLine) × (bytes ≡ head_text a) × IsHead a }
+{}
+
+/// A law: the text of a register line has no newline, is that of one access on one side, and is that of no answer.
+#[tactic(auto, using(crate::proofs::Accesses::access_is_no_answer))]
+pub fn register_lines()
+    ensures told { (a b : Access) (s t : Side) → IsAccess a → IsAccess b → access_text a s ≡ access_text b t → (a ≡ b) × (s ≡ t) }
+    ensures plain { (a : Access) (s : Side) → is_plain (access_text a s) ≡ true }
+    ensures no_answer { (a : Access) (s : Side) (b : Answer) → access_text a s ≡ answer_text b → ⊥ }
 {}

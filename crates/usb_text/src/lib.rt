@@ -1,25 +1,23 @@
 //! The lines of a job, of its answers and of accesses to registers: one spelling for each value.
 #![tactic(auto)]
 
-mod access;
 mod call;
 mod head;
 mod laws;
 mod line;
 mod reading;
 mod reply;
-mod rules;
 mod show;
 mod show_call;
 
-pub use access::{MOST_ACCESS, Side, access_text, push_access_line, register_lines};
 pub use call::DevCall;
 pub use head::HeadLine;
-pub use laws::{one_spelling, texts_keep_rules};
+pub use laws::{one_spelling, register_lines, texts_keep_rules};
 pub use line::{Answer, DevLine, Line, ScheduleLine, ServedLine};
+pub use line_rules::{LineFault, MOST_LINE, Mode, Place, lowest_rule};
 pub use reading::{read_head, read_line, read_schedule};
+pub use register_text::{MOST_ACCESS, Side, access_text, push_access_line};
 pub use reply::{MOST_ANSWER, answer_text, push_bus_line, push_reply_line};
-pub use rules::{LineFault, MOST_LINE, Mode, Place, lowest_rule};
 pub use show::{head_text, line_text};
 pub use show_call::call_text;
 

@@ -1,12 +1,14 @@
 ghost use Rattle.std.specs.Prelude.{◌≡◌, codes};
 ghost use Rattle.std.specs.Option.{option_map};
 ghost use Rattle.usb_words.specs.Field.{none_left, number_of, bytes_in, exactly, fate_of};
+ghost use Rattle.line_rules.specs.Kinds.{kind_of, bad, noack};
 ghost use Rattle.usb_text.specs.Scheduled.{scheduled, device_line};
-ghost use Rattle.usb_text.specs.Line.{most_address, most_endpoint, bad, noack};
-ghost use Rattle.usb_text.specs.Reading.{kind_of, three, five, toggle_of, setup_words, out_words, in_words, alone, fields_line, line_of};
+ghost use Rattle.usb_text.specs.Line.{most_address, most_endpoint};
+ghost use Rattle.usb_text.specs.Reading.{three, five, toggle_of, setup_words, out_words, in_words, alone, fields_line, line_of};
 
 use crate::call::DevCall;
 use crate::head::HeadLine;
+use line_rules::{Kind, kind_of};
 use usb_packet::{BusAnswer, BusEvent, Packet, Toggle};
 use usb_pipe::Reply;
 use usb_words::{Words, read_hex, small_number};
@@ -78,19 +80,6 @@ pub enum ScheduleLine {
     End,
 }
 
-/// What a line's first word says that it is.
-#[derive(Clone, Copy)]
-pub enum Kind {
-    Reset,
-    Irq,
-    Task,
-    State,
-    End,
-    Setup,
-    Out,
-    In,
-}
-
 /// The line of the schedule that these bytes are the text of.
 pub fn line_of(line: &[u8]) -> Option<ScheduleLine>
     ensures { option_map scheduled result ≡ line_of line.now }
@@ -99,31 +88,6 @@ pub fn line_of(line: &[u8]) -> Option<ScheduleLine>
     let name = words.next()?;
     let kind = kind_of(name)?;
     read_fields(kind, &mut words)
-}
-
-/// The kind of line that a first word names.
-pub fn kind_of(name: &[u8]) -> Option<Kind>
-    ensures { result ≡ kind_of name.now }
-{
-    if name == b"in".as_slice() {
-        Some(Kind::In)
-    } else if name == b"out".as_slice() {
-        Some(Kind::Out)
-    } else if name == b"setup".as_slice() {
-        Some(Kind::Setup)
-    } else if name == b"irq".as_slice() {
-        Some(Kind::Irq)
-    } else if name == b"task".as_slice() {
-        Some(Kind::Task)
-    } else if name == b"reset".as_slice() {
-        Some(Kind::Reset)
-    } else if name == b"end".as_slice() {
-        Some(Kind::End)
-    } else if name == b"state".as_slice() {
-        Some(Kind::State)
-    } else {
-        None
-    }
 }
 
 /// Reads the words after a line's name.
@@ -169,6 +133,7 @@ fn three<'a>(words: &mut Words<'a>) -> Option<(&'a [u8], &'a [u8], &'a [u8])>
 }
 
 /// `setup ADDR HEX FATE`
+#[inline(never)]
 fn read_setup(words: &mut Words<'_>) -> Option<ScheduleLine>
     ensures { option_map scheduled result ≡ setup_words (three words.old) }
 {
@@ -196,6 +161,7 @@ fn five<'a>(words: &mut Words<'a>) -> Option<(&'a [u8], &'a [u8], &'a [u8], &'a 
 }
 
 /// `out ADDR EP T HEX FATE`
+#[inline(never)]
 fn read_out(words: &mut Words<'_>) -> Option<ScheduleLine>
     ensures { option_map scheduled result ≡ out_words (five words.old) }
 {
@@ -215,6 +181,7 @@ fn read_out(words: &mut Words<'_>) -> Option<ScheduleLine>
 }
 
 /// `in ADDR EP FATE`
+#[inline(never)]
 fn read_in(words: &mut Words<'_>) -> Option<ScheduleLine>
     ensures { option_map scheduled result ≡ in_words (three words.old) }
 {

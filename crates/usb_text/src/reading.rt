@@ -1,17 +1,17 @@
 ghost use Rattle.std.specs.Prelude.{◌≡◌, None, Some, Ok, IfOk, IfErr};
+ghost use Rattle.line_rules.specs.declared.rules.Mode.TheVariants as mode;
+ghost use Rattle.line_rules.specs.declared.rules.Place.TheVariants as place;
+ghost use Rattle.line_rules.specs.Rules.{lowest};
 ghost use Rattle.usb_text.specs.declared.line.Line.{Line};
 ghost use Rattle.usb_text.specs.Scheduled.{Scheduled, scheduled};
 ghost use Rattle.usb_text.specs.declared.head.HeadLine.{HeadLine};
-ghost use Rattle.usb_text.specs.declared.rules.Mode.TheVariants as mode;
-ghost use Rattle.usb_text.specs.declared.rules.Place.TheVariants as place;
 ghost use Rattle.usb_text.specs.Line.{line_text, schedule_text_of, IsInRange, IsLine, IsScheduled};
 ghost use Rattle.usb_text.specs.Lines.{StandsIn, line_in};
 ghost use Rattle.usb_text.specs.Head.{head_text, IsHead};
-ghost use Rattle.usb_text.specs.Rules.{lowest};
 
 use crate::head::{HeadLine, head_of};
 use crate::line::{Line, ScheduleLine, line_of};
-use crate::rules::{LineFault, Mode, Place, lowest_rule};
+use line_rules::{LineFault, Mode, Place, lowest_rule};
 
 /// Reads a line that stands at this place of a job of this mode. The line has no newline. Where it isn't
 /// the text of one, the error is the lowest rule that it breaks, 1 to 7.

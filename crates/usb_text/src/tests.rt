@@ -2,12 +2,10 @@ ghost use Rattle.std.specs.Prelude.{◌≡◌, ◌≤◌, length};
 ghost use Rattle.usb_text.specs.Call.{IsCall};
 
 use crate::{
-    Answer, DevCall, DevLine, Line, Mode, Place, Side, access_text, answer_text, call_text,
-    line_text, lowest_rule, push_access_line, push_bus_line, push_reply_line, read_head, read_line,
-    read_schedule,
+    Answer, DevCall, DevLine, Line, Mode, Place, answer_text, call_text, line_text, push_bus_line,
+    push_reply_line, read_head, read_line, read_schedule,
 };
 use arrayvec::ArrayVec;
-use dwc2_regs::Access;
 use usb_packet::{BusAnswer, BusEvent, Packet, Toggle};
 use usb_pipe::{CdcDeviceCall, HidDeviceCall, HostWord, MidiCall, MscDeviceCall, Reply};
 
@@ -186,7 +184,6 @@ fn other_modes(rt: HostRuntime) {
         assert_eq!(rt; rule_in(line.as_bytes(), Mode::Link, Place::Head), rule);
         assert_eq!(rt; rule_in(line.as_bytes(), Mode::Link, Place::Schedule), rule);
     }
-    assert_eq!(rt; lowest_rule(b"begin", Mode::Host, Place::Head), Some(3));
 }
 
 /// What was read is printed as it stood.
@@ -372,32 +369,4 @@ fn longest_answer(rt: HostRuntime) {
     let mut line: ArrayVec<u8, 8300> = ArrayVec::new();
     push_bus_line(&mut line, &BusAnswer::Stall);
     assert_eq!(rt; line.as_slice(), b"stall\n".as_slice());
-}
-
-/// Accesses to registers, with the digits worked by hand.
-#[test]
-fn accesses(rt: HostRuntime) {
-    for (write, off, value, side, text) in [
-        (false, 0x14, 4096, Side::Plain, "r 0014 00001000"),
-        (true, 0x804, 0, Side::Plain, "w 0804 00000000"),
-        (true, 0xb00, 0x8408_8040, Side::Device, "dw 0b00 84088040"),
-        (false, 0x20, 0x0004_0012, Side::Device, "dr 0020 00040012"),
-        (false, 0x440, 0x0000_100d, Side::Host, "hr 0440 0000100d"),
-        (true, 65535, 4294967295, Side::Host, "hw ffff ffffffff"),
-    ] {
-        let access = Access { write, off, value };
-        assert_eq!(rt; access_text(&access, side).as_slice(), text.as_bytes());
-    }
-    let read = Access {
-        write: false,
-        off: 0x14,
-        value: 4096,
-    };
-    let mut lines: ArrayVec<u8, 64> = ArrayVec::new();
-    push_access_line(&mut lines, &read, Side::Plain);
-    push_access_line(&mut lines, &read, Side::Host);
-    assert_eq!(rt;
-        lines.as_slice(),
-        b"r 0014 00001000\nhr 0014 00001000\n".as_slice()
-    );
 }

@@ -19,6 +19,10 @@ space = 32
 abbrev pub is_space : ℕ → Bool
 is_space b = b == space
 
+-- the byte that ends a line
+abbrev pub newline : ℕ
+newline = 10
+
 -- what stands between the spaces of a line
 abbrev pub pieces : List ℕ → List (List ℕ)
 pieces bytes = slice_split is_space bytes

@@ -1,8 +1,0 @@
-use Rattle.usb_text.proofs.Accesses.{access_told, access_is_plain}
-use Rattle.usb_text.proofs.access.register_lines.Goals as goal
-
-pub returns-clause-told : goal.returns-clause-told
-returns-clause-told c = access_told
-
-pub returns-clause-plain : goal.returns-clause-plain
-returns-clause-plain c = access_is_plain

@@ -1,8 +1,0 @@
-use Rattle.std.proofs.Common.{◌≡◌, ◌&&◌, drop}
-use Rattle.usb_words.specs.Field.{pieces}
-use Rattle.usb_text.specs.Rules.{all_keep, after_name}
-use Rattle.usb_text.proofs.rules.all_keep.Given as goal
-
--- what was seen, and what is left, decide
-abbrev pub invariant-loop-field : goal.invariant-loop-field
-invariant-loop-field l = (l.kept && all_keep l.rule (drop l.field-index l.fields) l.words) ≡ all_keep l.rule l.fields (after_name (pieces l.line))
