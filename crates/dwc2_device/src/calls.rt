@@ -11,6 +11,7 @@ use crate::DevPort;
 use crate::words::STALL;
 use arrayvec::ArrayVec;
 use device_driver_relation::Ready;
+use device_driver_relation::laws::packet_fits;
 use dwc2_access::Regs;
 use usb_packet::Packet;
 
@@ -30,7 +31,7 @@ impl<R: Regs + Drop> DevPort<R> {
         ensures still { self.new.bank.due ≡ [] }
         ensures goes { GoesOn self.old.bank self.new.bank }
     {
-        fits(packet);
+        packet_fits(packet);
         self.wait(packet, last);
     }
 
@@ -175,19 +176,4 @@ impl<R: Regs + Drop> DevPort<R> {
     {
         self.next_address = Some(addr);
     }
-}
-
-/// A packet has at most 64 bytes.
-fn fits(packet: &Packet)
-    ensures size { length packet.now ≤ 64 }
-    ensures below { (i : ℕ) → slice_index packet.now i < 256 }
-{
-    below(packet.bytes());
-}
-
-/// Bytes are numbers below 256.
-fn below(bytes: &[u8])
-    ensures { (i : ℕ) → slice_index bytes.now i < 256 }
-{
-    let _ = bytes;
 }

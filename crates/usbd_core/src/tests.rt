@@ -5,8 +5,9 @@ ghost use Rattle.usb_descriptor.specs.Set.{IsAccepted};
 ghost use Rattle.usbd_core.specs.Device.{tops, Agrees};
 
 use crate::DevStack;
-use crate::laws::{bus_keeps, event_fits};
+use crate::laws::bus_keeps;
 use arrayvec::ArrayVec;
+use device_driver_relation::laws::event_fits;
 use dwc2_access::Regs;
 use dwc2_devmodel::DevCore;
 use dwc2_regs::FS4;
