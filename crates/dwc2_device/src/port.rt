@@ -76,6 +76,7 @@ impl<R: Regs + Drop> DevPort<R> {
     }
 
     #[tactic(auto, using(crate::proofs::Goes::read_goes_on))]
+    #[inline(always)]
     pub(crate) fn read(&mut self, off: u16) -> u32
         requires known { IsRegister off }
         requires spare { 1 ≤ self.old.bank.spare }
@@ -90,6 +91,7 @@ impl<R: Regs + Drop> DevPort<R> {
     }
 
     #[tactic(auto, using(crate::proofs::Goes::write_goes_on))]
+    #[inline(always)]
     pub(crate) fn write(&mut self, off: u16, word: u32)
         requires known { IsRegister off }
         requires spare { 1 ≤ self.old.bank.spare }
@@ -104,6 +106,7 @@ impl<R: Regs + Drop> DevPort<R> {
 
     /// The same, and the list of accesses tells it.
     #[tactic(auto, using(crate::proofs::Goes::write_goes_on, crate::proofs::Goes::write_told))]
+    #[inline(always)]
     pub(crate) fn write_listed(&mut self, off: u16, word: u32)
         requires known { IsRegister off }
         requires spare { 1 ≤ self.old.bank.spare }
@@ -118,6 +121,7 @@ impl<R: Regs + Drop> DevPort<R> {
     }
 
     /// A word is written to DIEPCTLx.
+    #[inline(always)]
     pub(crate) fn write_in_control(&mut self, x: u8, word: u32)
         requires known { x ≤ 11 }
         requires spare { 1 ≤ self.old.bank.spare }
@@ -131,6 +135,7 @@ impl<R: Regs + Drop> DevPort<R> {
     }
 
     /// A word is written to DOEPCTLx.
+    #[inline(always)]
     pub(crate) fn write_out_control(&mut self, x: u8, word: u32)
         requires known { x ≤ 11 }
         requires spare { 1 ≤ self.old.bank.spare }
@@ -144,6 +149,7 @@ impl<R: Regs + Drop> DevPort<R> {
     }
 
     /// A word is written to DIEPINTx.
+    #[inline(always)]
     pub(crate) fn clear_in_interrupts(&mut self, x: u8, word: u32)
         requires known { x ≤ 11 }
         requires spare { 1 ≤ self.old.bank.spare }
@@ -157,6 +163,7 @@ impl<R: Regs + Drop> DevPort<R> {
     }
 
     /// A word is written to DOEPINTx.
+    #[inline(always)]
     pub(crate) fn clear_out_interrupts(&mut self, x: u8, word: u32)
         requires known { x ≤ 11 }
         requires spare { 1 ≤ self.old.bank.spare }

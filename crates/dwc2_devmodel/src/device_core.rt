@@ -63,6 +63,7 @@ impl DevCore {
         self.accesses.as_slice()
     }
 
+    #[inline(always)]
     fn log(&mut self, access: Access)
         requires { 1 ≤ self.old.spare }
         ensures { self.new ≡ record self.old { spare = self.old.spare - 1; log = self.old.log ++ access ∷ []; made = counted self.old.made } }
@@ -81,6 +82,7 @@ impl Regs for DevCore {
         self.accesses.clear();
     }
 
+    #[inline(always)]
     fn read(&mut self, off: u16) -> u32 {
         let value = self.controller.read(off);
         self.log(Access {
@@ -91,6 +93,7 @@ impl Regs for DevCore {
         value
     }
 
+    #[inline(always)]
     fn write(&mut self, off: u16, value: u32) {
         self.controller.write(off, value);
         self.log(Access {

@@ -20,6 +20,7 @@ use dwc2_state::{
 
 impl Controller {
     /// The word read at an offset, 0 where no register stands there. What is read of the receive FIFO is taken.
+    #[inline(always)]
     pub fn read(&mut self, off: u16) -> u32
         ensures value { result ≡ read_value self.old off }
         ensures after { self.new ≡ read_table self.old off }
@@ -31,6 +32,7 @@ impl Controller {
     }
 
     #[tactic(auto, using(crate::proofs::ReadLemmas::host_stays, crate::proofs::ReadLemmas::device_stays, crate::proofs::ReadLemmas::channel_stays, crate::proofs::ReadLemmas::in_stays, crate::proofs::ReadLemmas::out_stays))]
+    #[inline(always)]
     fn read_place(&mut self, place: Place) -> u32
         ensures value { result ≡ value_read self.old (register_of place) }
         ensures after { self.new ≡ after_read self.old (register_of place) }
@@ -47,6 +49,7 @@ impl Controller {
         }
     }
 
+    #[inline(always)]
     fn read_core(&mut self, register: CoreRegister) -> u32
         ensures value { result ≡ value_read self.old (of_core register) }
         ensures after { self.new ≡ after_read self.old (of_core register) }
@@ -268,6 +271,7 @@ impl Controller {
     }
 
     // GRXSTSP: takes the front entry, where there is one.
+    #[inline(always)]
     fn pop_entry(&mut self) -> u32
         ensures value { result ≡ first_status self.old.rx.entries }
         ensures after { self.new ≡ entry_popped self.old self.old.rx.entries }
@@ -282,6 +286,7 @@ impl Controller {
     }
 
     // What the end of a SETUP or of an OUT packet sets once it is popped.
+    #[inline(always)]
     fn end_popped(&mut self, status: u32)
         ensures { self.new ≡ end_popped self.old status }
     {

@@ -26,6 +26,7 @@ fn flush_each(ends: &mut [InEndpoint])
 
 impl Controller {
     /// Writes a word at an offset. Where no register stands nothing changes.
+    #[inline(always)]
     pub fn write(&mut self, off: u16, word: u32)
         ensures { self.new ≡ write_table self.old off word }
     {
@@ -35,6 +36,7 @@ impl Controller {
         }
     }
 
+    #[inline(always)]
     fn write_place(&mut self, place: Place, word: u32)
         ensures { self.new ≡ after_write self.old (register_of place) word }
     {
@@ -50,6 +52,7 @@ impl Controller {
         }
     }
 
+    #[inline(always)]
     fn write_core(&mut self, register: CoreRegister, word: u32)
         ensures { self.new ≡ after_write self.old (of_core register) word }
     {
@@ -136,6 +139,7 @@ impl Controller {
         }
     }
 
+    #[inline(always)]
     fn write_device(&mut self, register: DeviceRegister, word: u32)
         ensures { self.new ≡ after_write self.old (of_device register) word }
     {
@@ -152,6 +156,7 @@ impl Controller {
     }
 
     #[tactic(auto, using(crate::proofs::WriteLemmas::in_written_is))]
+    #[inline(always)]
     fn write_in(&mut self, x: u8, register: InRegister, word: u32)
         ensures { self.new ≡ after_write self.old (of_in x register) word }
     {
@@ -159,6 +164,7 @@ impl Controller {
         self.write_in_end(x, acts, register, word);
     }
 
+    #[inline(always)]
     fn write_in_end(&mut self, x: u8, acts: bool, register: InRegister, word: u32)
         ensures { self.new ≡ with_in self.old x (in_written x acts register word (in_end self.old x)) }
     {
@@ -172,6 +178,7 @@ impl Controller {
     }
 
     #[tactic(auto, using(crate::proofs::WriteLemmas::out_written_is))]
+    #[inline(always)]
     fn write_out(&mut self, x: u8, register: OutRegister, word: u32)
         ensures { self.new ≡ after_write self.old (of_out x register) word }
     {
@@ -179,6 +186,7 @@ impl Controller {
         self.write_out_end(x, acts, register, word);
     }
 
+    #[inline(always)]
     fn write_out_end(&mut self, x: u8, acts: bool, register: OutRegister, word: u32)
         ensures { self.new ≡ with_out self.old x (out_written acts register word (out_end self.old x)) }
     {
@@ -191,6 +199,7 @@ impl Controller {
         }
     }
 
+    #[inline(always)]
     fn write_window(&mut self, x: u8, word: u32)
         ensures { self.new ≡ after_write self.old (fifo x) word }
     {

@@ -85,6 +85,7 @@ pub enum Place {
 }
 
 /// The register at an offset, if there is one.
+#[inline(always)]
 pub fn place_at(off: u16) -> Option<Place>
     ensures { option_map register_of result ≡ register_at off }
 {
@@ -115,6 +116,7 @@ pub fn place_at(off: u16) -> Option<Place>
     window_place(off)
 }
 
+#[inline(always)]
 fn core_place(off: u16) -> Option<Place>
     requires { off < 0x104 }
     ensures { option_map register_of result ≡ register_at off }
@@ -132,6 +134,7 @@ fn core_place(off: u16) -> Option<Place>
     }
 }
 
+#[inline(always)]
 fn size_place(off: u16) -> Option<Place>
     requires from { 0x104 ≤ off }
     requires to { off < 0x130 }
@@ -145,6 +148,7 @@ fn size_place(off: u16) -> Option<Place>
     }
 }
 
+#[inline(always)]
 fn host_place(off: u16) -> Option<Place>
     requires from { 0x130 ≤ off }
     requires to { off < 0x500 }
@@ -159,6 +163,7 @@ fn host_place(off: u16) -> Option<Place>
     }
 }
 
+#[inline(always)]
 fn channel_place(off: u16) -> Option<Place>
     requires from { 0x500 ≤ off }
     requires to { off < 0x680 }
@@ -180,6 +185,7 @@ fn channel_place(off: u16) -> Option<Place>
     None
 }
 
+#[inline(always)]
 fn device_place(off: u16) -> Option<Place>
     requires from { 0x680 ≤ off }
     requires to { off < 0x900 }
@@ -198,6 +204,7 @@ fn device_place(off: u16) -> Option<Place>
     }
 }
 
+#[inline(always)]
 fn in_place(off: u16) -> Option<Place>
     requires from { 0x900 ≤ off }
     requires to { off < 0xa80 }
@@ -219,6 +226,7 @@ fn in_place(off: u16) -> Option<Place>
     None
 }
 
+#[inline(always)]
 fn out_place(off: u16) -> Option<Place>
     requires from { 0xb00 ≤ off }
     requires to { off < 0xc80 }
@@ -237,6 +245,7 @@ fn out_place(off: u16) -> Option<Place>
     None
 }
 
+#[inline(always)]
 fn window_place(off: u16) -> Option<Place>
     requires { 0xc80 ≤ off }
     ensures { option_map register_of result ≡ register_at off }

@@ -53,6 +53,7 @@ fn named(setup: &Setup) -> u8
 }
 
 /// The core gives these bytes.
+#[inline(never)]
 fn gives(bytes: &[u8]) -> Choice
     requires { length bytes.now ≤ 512 }
     ensures { result ≡ gives bytes.now }

@@ -30,6 +30,7 @@ impl DataStage {
 
     #[tactic(auto, using(crate::proofs::Packets::packets_of))]
     /// A data stage with these bytes, of which the host allows so many.
+    #[inline(always)]
     pub fn new(bytes: ArrayVec<u8, 512>, allowed: u16) -> DataStage
         ensures { result ≡ data_packets bytes.items allowed }
     {

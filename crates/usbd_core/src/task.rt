@@ -141,6 +141,7 @@ impl<R: Regs + Drop> DevStack<R> {
     }
 
     /// The first stage of a request.
+    #[inline(always)]
     fn stage(&mut self, decision: Decision, effect: Effect, allowed: u16)
         requires sound { IsSound (joint self.old.port) }
         requires fits { Fits self.old.set (port_in self.old) self.old.state self.old.transfer }
@@ -226,6 +227,7 @@ impl<R: Regs + Drop> DevStack<R> {
     }
 
     /// The first stage of a request with data for the host, of which it allows so many bytes.
+    #[inline(always)]
     fn give(&mut self, bytes: ArrayVec<u8, 512>, allowed: u16)
         requires sound { IsSound (joint self.old.port) }
         requires fits { Fits self.old.set (port_in self.old) self.old.state self.old.transfer }
