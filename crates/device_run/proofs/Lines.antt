@@ -1,5 +1,7 @@
 -- What a line makes of a device.
 use Rattle.std.proofs.Common.{◌≡◌, ◌≤◌, List, [], refl, ap, sym, ◌∙◌, subst, length, arith}
+use Rattle.std.specs.List.{AllByRecursion}
+use Rattle.register_text.specs.Access.{IsAccess}
 use Rattle.usb_packet.specs.declared.bus.BusAnswer.TheVariants.{Done}
 use Rattle.dwc2_regs.specs.declared.access.Access.{Access}
 use Rattle.controller_table.specs.Bank.{Bank, begun}
@@ -26,19 +28,20 @@ record Worked (a b : Bank) : Type 0 where
   work : AreWork a.table b.log
   table : b.table ≡ accesses_after a.table b.log
 
-worked : (a b : Bank) → a.due ≡ [] → GoesOn (begun a) b → Worked a b
-worked a b e goes =
+worked : (a b : Bank) → a.due ≡ [] → GoesOn (begun a) b → AllByRecursion IsAccess b.log → Worked a b
+worked a b e goes fit =
     let m = moved (begun a) b e (goes (begun a) stays) in
     let few : length b.log ≤ 400 = omega (arith, ap length m.log, m.spare) in
     record {
-      work = (subst (λ (l : List Access). AreSteps a.table l) (sym m.log) m.steps, few);
+      work = (subst (λ (l : List Access). AreSteps a.table l) (sym m.log) m.steps, few, fit);
       table = subst (λ (l : List Access). b.table ≡ accesses_after a.table l) (sym m.log) m.table;
     }
 
 pub irq_steps : (d e : Device) (b : Bank) → b ≡ begun d.port.bank → d.port.bank.due ≡ [] → e.set ≡ d.set
-    → core_of e ≡ after_irq (core_of (with_bank d b)) → GoesOn b e.port.bank → Steps (run_of d) (run_of e) Irq (TheBus Done)
-irq_steps d e b same due set core goes =
-    let w = worked d.port.bank e.port.bank due (subst (λ (x : Bank). GoesOn x e.port.bank) same goes) in
+    → core_of e ≡ after_irq (core_of (with_bank d b)) → GoesOn b e.port.bank → AllByRecursion IsAccess e.port.bank.log
+    → Steps (run_of d) (run_of e) Irq (TheBus Done)
+irq_steps d e b same due set core goes fit =
+    let w = worked d.port.bank e.port.bank due (subst (λ (x : Bank). GoesOn x e.port.bank) same goes) fit in
     record {
       set = set;
       answered = refl;
@@ -48,9 +51,10 @@ irq_steps d e b same due set core goes =
     }
 
 pub task_steps : (d e : Device) (b : Bank) → b ≡ begun d.port.bank → d.port.bank.due ≡ [] → e.set ≡ d.set
-    → core_of e ≡ after_task d.set (core_of (with_bank d b)) → GoesOn b e.port.bank → Steps (run_of d) (run_of e) Task (TheBus Done)
-task_steps d e b same due set core goes =
-    let w = worked d.port.bank e.port.bank due (subst (λ (x : Bank). GoesOn x e.port.bank) same goes) in
+    → core_of e ≡ after_task d.set (core_of (with_bank d b)) → GoesOn b e.port.bank → AllByRecursion IsAccess e.port.bank.log
+    → Steps (run_of d) (run_of e) Task (TheBus Done)
+task_steps d e b same due set core goes fit =
+    let w = worked d.port.bank e.port.bank due (subst (λ (x : Bank). GoesOn x e.port.bank) same goes) fit in
     record {
       set = set;
       answered = refl;

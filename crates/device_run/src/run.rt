@@ -1,9 +1,12 @@
-ghost use Rattle.std.specs.Prelude.{◌≡◌, [], IfOk};
+ghost use Rattle.std.specs.Prelude.{◌≡◌, ◌<◌, ◌^◌, [], IfOk};
 ghost use Rattle.usb_descriptor.specs.Set.{IsAccepted};
 ghost use Rattle.controller_table.specs.State.{opened};
 ghost use Rattle.device_machine.specs.Core.{start};
 ghost use Rattle.device_schedule.specs.Job.{limits};
+ghost use Rattle.std.specs.List.{AllByRecursion};
+ghost use Rattle.register_text.specs.Access.{IsAccess};
 
+use device_driver_relation::laws::event_fits;
 use dwc2_access::Regs;
 use dwc2_devmodel::DevCore;
 use dwc2_regs::{Access, FS4};
@@ -15,7 +18,7 @@ use usb_packet::{BusAnswer, BusEvent};
 use usb_pipe::Reply;
 use usb_text::{Answer, DevCall, DevLine};
 use usbd_core::DevStack;
-use usbd_core::laws::{bus_keeps, event_fits};
+use usbd_core::laws::bus_keeps;
 
 /// A device between two lines of its schedule: its software over the controller, which agree.
 #[derive(Drop)]
@@ -84,8 +87,16 @@ impl DeviceRun {
         self.stack.controller().accesses()
     }
 
+    /// An offset has 16 bits, and a word 32.
+    fn trace_fits(&self)
+        ensures { AllByRecursion IsAccess self.now.log }
+    {
+        accesses_fit(self.trace());
+    }
+
     /// A line of the bus, and its answer there. It and the calls for the other lines are what `step` is made of, without
     /// an `Answer`, which has room for the longest one.
+    #[inline(never)]
     pub fn bus(&mut self, event: &BusEvent) -> BusAnswer
         ensures { Steps self.old self.new (Bus event.now) (TheBus result) }
     {
@@ -102,6 +113,7 @@ impl DeviceRun {
     {
         self.stack.regs().begin();
         self.stack.irq();
+        self.trace_fits();
     }
 
     /// A task run, which is answered `Done`.
@@ -110,6 +122,7 @@ impl DeviceRun {
     {
         self.stack.regs().begin();
         self.stack.task();
+        self.trace_fits();
     }
 
     /// What is answered to a call. No class is driven yet, so each call of one is closed.
@@ -128,4 +141,30 @@ impl DeviceRun {
             DevCall::Midi(_) => Reply::Closed,
         }
     }
+}
+
+/// Accesses have offsets of 16 bits and words of 32.
+fn accesses_fit(accesses: &[Access])
+    ensures { AllByRecursion IsAccess accesses.now }
+{
+    match accesses {
+        [] => {}
+        [access, rest @ ..] => {
+            access_fits(access);
+            accesses_fit(rest);
+        }
+    }
+}
+
+/// And so has one of them.
+fn access_fits(access: &Access)
+    ensures { IsAccess access.now }
+{
+    words_fit(access.off, access.value);
+}
+
+fn words_fit(off: u16, word: u32)
+    ensures { (off < 2 ^ 16) × (word < 2 ^ 32) }
+{
+    let _ = (off, word);
 }

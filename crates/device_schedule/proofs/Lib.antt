@@ -1,4 +1,5 @@
 pub mod Answers
 pub mod Traces
+pub mod Told
 pub mod Closed
 pub mod Outcomes

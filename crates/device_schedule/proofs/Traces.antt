@@ -5,9 +5,9 @@ use Rattle.std.proofs.lemmas.List.{append-nil}
 use Rattle.dwc2_regs.specs.declared.access.Access.{Access}
 use Rattle.controller_table.specs.State.{Table, opened}
 use Rattle.usb_descriptor.specs.Set.{Set}
+use Rattle.register_text.specs.declared.access.Side.TheVariants.{Plain}
 use Rattle.usb_text.specs.declared.line.DevLine.{DevLine}
 use Rattle.usb_text.specs.declared.line.Answer.{Answer}
-use Rattle.usb_text.specs.declared.access.Side.TheVariants.{Plain}
 use Rattle.usb_text.specs.Line.{answer_text, newline}
 use Rattle.usb_text.specs.Plain.{is_plain}
 use Rattle.usb_text.proofs.Accesses.{is_way, is_side, begins_an_access, answer_begins, access_is_plain}
@@ -116,7 +116,7 @@ first_line : (line rest : List ℕ) → is_plain line ≡ true → text_lines (l
 first_line [] rest p = refl
 first_line (b ∷ bs) rest p = rw (plain_first b bs p) (ap (onto_first b) (first_line bs rest (plain_rest b bs p)))
 
-lines_again : (lines : List (List ℕ)) → list_all is_plain lines ≡ true → text_lines (flat_map ended lines) ≡ lines
+pub lines_again : (lines : List (List ℕ)) → list_all is_plain lines ≡ true → text_lines (flat_map ended lines) ≡ lines
 lines_again [] p = refl
 lines_again (line ∷ lines) p =
     let parts = both (is_plain line) (list_all is_plain lines) p in

@@ -4,15 +4,15 @@ use Rattle.std.specs.List.{AllByRecursion}
 use Rattle.usb_descriptor.specs.declared.limits.SetFault.{SetFault}
 use Rattle.usb_descriptor.specs.Set.{Set}
 use Rattle.usb_descriptor.specs.Strings.{string_descriptor}
+use Rattle.line_rules.specs.declared.rules.Mode.TheVariants as mode
+use Rattle.line_rules.specs.declared.rules.Place.TheVariants as place
+use Rattle.line_rules.specs.Rules.{lowest}
 use Rattle.usb_text.specs.declared.line.DevLine.{DevLine}
 use Rattle.usb_text.specs.Scheduled.{Scheduled}
 use Rattle.usb_text.specs.declared.head.HeadLine.{HeadLine}
-use Rattle.usb_text.specs.declared.rules.Mode.TheVariants as mode
-use Rattle.usb_text.specs.declared.rules.Place.TheVariants as place
 use Rattle.usb_text.specs.Line.{newline, schedule_text_of, IsScheduled, IsDeviceLine}
 use Rattle.usb_text.specs.Head.{head_text, IsHead}
 use Rattle.usb_text.specs.Plain.{is_plain}
-use Rattle.usb_text.specs.Rules.{lowest}
 use Rattle.device_schedule.specs.Job.{Job, Spells, IsHeadSoFar, IsAccepted, is_whole, in_order, set_fault, parts_of, front_text, closed, given, most_bytes}
 
 -- the set of descriptors that a head gives

@@ -1,19 +1,19 @@
 -- The accesses to registers of a device's run, line by line, and their text among the answers.
 use Rattle.std.specs.Prelude.{◌≡◌, ◌≤◌, ℕ, List, [], ◌∷◌, ◌++◌, length, map, filter, Bool, false, not, ◌==◌, ◌&&◌, ◌||◌, if◌then◌else◌}
-use Rattle.std.specs.List.{flat_map, onto_first}
+use Rattle.std.specs.List.{flat_map, onto_first, AllByRecursion}
 use Rattle.dwc2_regs.specs.declared.access.Access.{Access}
 use Rattle.controller_table.specs.State.{Table, opened}
 use Rattle.controller_table.specs.Bank.{most_accesses}
 use Rattle.controller_table.specs.Bus as table
 use Rattle.dwc2_access.specs.Run.{AreSteps, accesses_after}
 use Rattle.usb_descriptor.specs.Set.{Set}
+use Rattle.register_text.specs.declared.access.Side.TheVariants.{Plain}
+use Rattle.register_text.specs.Access.{access_text, IsAccess}
 use Rattle.usb_text.specs.declared.line.DevLine.{DevLine}
 use Rattle.usb_text.specs.declared.line.DevLine.TheVariants.{Bus, Irq, Task, Call}
 use Rattle.usb_text.specs.declared.line.Answer.{Answer}
 use Rattle.usb_text.specs.declared.line.Answer.TheVariants as answer
-use Rattle.usb_text.specs.declared.access.Side.TheVariants.{Plain}
 use Rattle.usb_text.specs.Line.{answer_text, newline}
-use Rattle.usb_text.specs.Access.{access_text}
 use Rattle.device_schedule.specs.Schedule.{answers}
 
 -- a line of a schedule, the accesses made for it, the oldest first, and its answer
@@ -22,9 +22,9 @@ pub record Turn : Type 0 where
   pub accesses : List Access
   pub answer : Answer
 
--- the accesses for a line are steps of the controller, at most 400
+-- the accesses for a line are steps of the controller, at most 400, with offsets of 16 bits and words of 32
 abbrev pub AreWork : Table → List Access → Type 0
-AreWork t accesses = AreSteps t accesses × (length accesses ≤ most_accesses)
+AreWork t accesses = AreSteps t accesses × (length accesses ≤ most_accesses) × AllByRecursion IsAccess accesses
 
 -- a line of the bus has no accesses, and its answer is what the controller's bus event gives
 abbrev pub IsTurn : Table → DevLine → List Access → Answer → Type 0
