@@ -23,27 +23,28 @@ use Rattle.device_schedule.specs.Job.{Job, Spells, IsAccepted, IsHeadSoFar, head
 use Rattle.device_schedule.specs.Outcome.{Front, Breaks, RefusesLine, RefusesSet, EndsShort, PassesLimit, set_of}
 use Rattle.device_schedule.proofs.Closed.{closed_heads, closed_schedule, closed_both}
 use Rattle.device_schedule.proofs.Traces.{run_left}
-use Rattle.usbrun.specs.Stream.{Hands, bytes_left}
-use Rattle.usbrun.specs.Lines.{Gone, IsCut}
-use Rattle.usbrun.specs.Head.{new_lines, BreaksHead, HeadSoFar, HeadStops}
+use Rattle.job_reader.specs.Stream.{bytes_left}
+use Rattle.usbrun.specs.Stream.{Hands}
+use Rattle.job_reader.specs.Lines.{Gone, IsCut}
+use Rattle.job_reader.specs.Head.{new_lines, BreaksHead, HeadSoFar, HeadStops}
 use Rattle.usbrun.specs.Session.{Runs}
 use Rattle.usbrun.specs.Finish.{Finishes, head_status, stop_status}
-use Rattle.usbrun.specs.Texts.{Took, HandsBoth, AreEmpty, OneRose, out_text, texts_of}
+use Rattle.usbrun.specs.Texts.{Took, HandsTold, HandsBoth, AreEmpty, OneRose, out_text, texts_of}
 use Rattle.usbrun.specs.Read.{Told, ToldBoth, ReadSoFar, Begins, HasHead}
 use Rattle.usbrun.specs.Written.{Ways, ways, Writes, TakesFront, WritesFront, WritesNothing, program_text}
 use Rattle.usbrun.specs.Top.{Ends}
-use Rattle.usbrun.specs.declared.lines.Lines.{Lines}
-use Rattle.usbrun.specs.declared.draft.Draft.{Draft}
-use Rattle.usbrun.specs.declared.head.NoHead.{NoHead}
-use Rattle.usbrun.specs.declared.head.NoHead.TheVariants as no
+use Rattle.job_reader.specs.declared.lines.Lines.{Lines}
+use Rattle.job_reader.specs.declared.draft.Draft.{Draft}
+use Rattle.job_reader.specs.declared.head.NoHead.{NoHead}
+use Rattle.job_reader.specs.declared.head.NoHead.TheVariants as no
 use Rattle.usbrun.specs.declared.texts.Texts.{Texts}
 use Rattle.usbrun.specs.declared.session.Session.{Session}
 use Rattle.usbrun.specs.declared.session.Stop.{Stop}
 use Rattle.usbrun.specs.declared.session.Stop.TheVariants as stop
 use Rattle.usbrun.specs.declared.status.Status.{Status}
 use Rattle.usbrun.specs.declared.status.Status.TheVariants as status
-use Rattle.usbrun.proofs.Gone.{gone_more, gone_closed, gone_given, gone_cut}
-use Rattle.usbrun.proofs.Drafts.{accepts_in_order, rank_most}
+use Rattle.job_reader.proofs.Gone.{gone_more, gone_closed, gone_given, gone_cut}
+use Rattle.job_reader.proofs.Drafts.{accepts_in_order, rank_most}
 use Rattle.usbrun.proofs.Handed.{both_more}
 
 -- what holds of the bytes that were read and of those that are left holds of what the source had
@@ -254,6 +255,17 @@ all_taken a b text waiting h none = subst (Takes a b) (sym (h.joined ∙ ap (λ 
 front_taken : (a b : Option (List ℕ)) (text waiting : List ℕ) → Hands a b text waiting → TakesFront a b text
 front_taken a b text waiting h = record { given = h.given; more = waiting; text_is = h.joined; takes = h.takes }
 
+-- the same of a sink that may not tell
+all_told : (a b : Option (List ℕ)) (text waiting : List ℕ) → HandsTold a b text waiting → waiting ≡ [] → Takes a b text
+all_told (Some a) b text waiting h none = all_taken (Some a) b text waiting h none
+all_told None None text waiting h none = tt
+all_told None (Some b) text waiting h none = absurd (cc (h))
+
+front_told : (a b : Option (List ℕ)) (text waiting : List ℕ) → HandsTold a b text waiting → TakesFront a b text
+front_told (Some a) b text waiting h = front_taken (Some a) b text waiting h
+front_told None None text waiting h = record { given = []; more = text; text_is = refl; takes = tt }
+front_told None (Some b) text waiting h = absurd (cc (h))
+
 -- the output's text is the program's
 out_is : (regs : Bool) (set : Set) (schedule : List DevLine) (turns : List Turn) → IsTrace set schedule turns
     → out_text regs turns ≡ program_text regs set schedule turns
@@ -287,7 +299,7 @@ module _ (left0 left1 left2 : Option (List ℕ)) (draft : Draft) (l1 : Lines) (h
       record {
         turns = u.turns;
         is_trace = traces r u;
-        trace = all_taken took0.trace took2.trace (trace_text u.turns) waiting.trace all.trace none.1;
+        trace = all_told took0.trace took2.trace (trace_text u.turns) waiting.trace all.trace none.1;
         answers = run_left (set_of h.heads) u.lines u.turns (traces r u);
         out = subst (Takes took0.out took2.out) (out_is regs (set_of h.heads) u.lines u.turns (traces r u))
             (all_taken took0.out took2.out (out_text regs u.turns) waiting.out all.out none.0);
@@ -300,7 +312,7 @@ module _ (left0 left1 left2 : Option (List ℕ)) (draft : Draft) (l1 : Lines) (h
       record {
         turns = u.turns;
         is_trace = traces r u;
-        trace = front_taken took0.trace took2.trace (trace_text u.turns) waiting.trace all.trace;
+        trace = front_told took0.trace took2.trace (trace_text u.turns) waiting.trace all.trace;
         out = subst (TakesFront took0.out took2.out) (out_is regs (set_of h.heads) u.lines u.turns (traces r u))
             (front_taken took0.out took2.out (out_text regs u.turns) waiting.out all.out);
       }

@@ -1,6 +1,6 @@
 -- What a sink took of what waits.
 use Rattle.std.proofs.Common.{◌≡◌, ℕ, ◌+◌, ◌-◌, ◌<◌, ◌≤◌, List, [], ◌∷◌, ◌++◌, Bool, true, false, length, map, take, drop, refl, ap, sym, ◌∙◌, arith, subst, append_assoc, ◌⊎◌, inl, inr, length-drop}
-use Rattle.std.specs.Prelude.{Option}
+use Rattle.std.specs.Prelude.{Option, Some, None}
 use Rattle.std.specs.List.{flat_map}
 use Rattle.std.proofs.lemmas.List.{take-append-drop, take_all, append-nil}
 use Rattle.std.proofs.Math.Seq.{take-add}
@@ -12,7 +12,7 @@ use Rattle.device_schedule.specs.Schedule.{answer_line}
 use Rattle.device_schedule.specs.Trace.{Turn, trace_text}
 use Rattle.device_schedule.proofs.Traces.{trace_text-more, turn_text-parts}
 use Rattle.usbrun.specs.Stream.{Hands}
-use Rattle.usbrun.specs.Texts.{Took, HandsBoth, added, out_part, trace_part, out_text, texts_of, AreEmpty}
+use Rattle.usbrun.specs.Texts.{Took, HandsTold, HandsBoth, Adds, added, out_part, trace_part, out_text, texts_of, AreEmpty}
 use Rattle.usbrun.specs.declared.texts.Texts.{Texts}
 use Rattle.usbrun.specs.Status.{status_line, Tells}
 use Rattle.usbrun.specs.declared.status.Status.{Status}
@@ -50,8 +50,28 @@ hands-more a b c x y z more h k = record {
 pub hands_as : (a b : Option (List ℕ)) (x y z : List ℕ) → x ≡ y → Hands a b x z → Hands a b y z
 hands_as a b x y z e h = record { given = h.given; takes = h.takes; joined = sym e ∙ h.joined }
 
+-- what is known of a sink that tells holds of one that doesn't
+pub told_handed : (a b : Option (List ℕ)) (x y : List ℕ) → Hands a b x y → HandsTold a b x y
+told_handed (Some a) b x y h = h
+told_handed None None x y h = refl
+told_handed None (Some b) x y h = absurd h.takes
+
+told-more : (a b c : Option (List ℕ)) (x y z more : List ℕ) → HandsTold a b x y → HandsTold b c (y ++ more) z → HandsTold a c (x ++ more) z
+told-more (Some a) (Some b) c x y z more h k = hands-more (Some a) (Some b) c x y z more h k
+told-more (Some a) None c x y z more h k = absurd h.takes
+told-more None None c x y z more h k = k
+told-more None (Some b) c x y z more h k = absurd (cc (h))
+
+told_as : (a b : Option (List ℕ)) (x y z : List ℕ) → x ≡ y → HandsTold a b x z → HandsTold a b y z
+told_as (Some a) b x y z e h = hands_as (Some a) b x y z e h
+told_as None b x y z e h = h
+
 pub both_nothing : (took : Took) (s : Texts) → HandsBoth took took s s
-both_nothing took s = record { out = none_handed took.out s.out; trace = none_handed took.trace s.trace; regs = refl }
+both_nothing took s = record {
+  out = none_handed took.out s.out;
+  trace = told_handed took.trace took.trace s.trace s.trace (none_handed took.trace s.trace);
+  regs = refl;
+}
 
 pub both_added : (took mid took' : Took) (old s new : Texts) (accesses : List Access) (a : Answer) → HandsBoth took mid old s
     → HandsBoth mid took' (added s accesses a) new → HandsBoth took took' (added old accesses a) new
@@ -59,26 +79,41 @@ both_added took mid took' old s new accesses a h k = record {
   out = hands-more took.out mid.out took'.out old.out s.out new.out (out_part old.regs accesses a) h.out
       (hands_as mid.out took'.out (s.out ++ out_part s.regs accesses a) (s.out ++ out_part old.regs accesses a) new.out
       (ap (λ r. s.out ++ out_part r accesses a) h.regs) k.out);
-  trace = hands-more took.trace mid.trace took'.trace old.trace s.trace new.trace (trace_part accesses a) h.trace k.trace;
+  trace = told-more took.trace mid.trace took'.trace old.trace s.trace new.trace (trace_part accesses a) h.trace k.trace;
   regs = k.regs ∙ h.regs;
 }
 
 pub both_more : (took mid took' : Took) (old s new : Texts) → HandsBoth took mid old s → HandsBoth mid took' s new → HandsBoth took took' old new
 both_more took mid took' old s new h k = record {
-  out = two took.out mid.out took'.out old.out s.out new.out h.out k.out;
-  trace = two took.trace mid.trace took'.trace old.trace s.trace new.trace h.trace k.trace;
+  out =
+      hands_as took.out took'.out (old.out ++ []) old.out new.out (append-nil old.out)
+      (hands-more took.out mid.out took'.out old.out s.out new.out [] h.out
+      (hands_as mid.out took'.out s.out (s.out ++ []) new.out (sym (append-nil s.out)) k.out));
+  trace =
+      told_as took.trace took'.trace (old.trace ++ []) old.trace new.trace (append-nil old.trace)
+      (told-more took.trace mid.trace took'.trace old.trace s.trace new.trace [] h.trace
+      (told_as mid.trace took'.trace s.trace (s.trace ++ []) new.trace (sym (append-nil s.trace)) k.trace));
   regs = k.regs ∙ h.regs;
-} where
-  two : (a b c : Option (List ℕ)) (x y z : List ℕ) → Hands a b x y → Hands b c y z → Hands a c x z
-  two a b c x y z h k =
-      hands_as a c (x ++ []) x z (append-nil x) (hands-more a b c x y z [] h (hands_as b c y (y ++ []) z (sym (append-nil y)) k))
+}
+
+-- some was handed on, and then a line's part was put behind what waits
+pub then_added : (took took' : Took) (old s new : Texts) (accesses : List Access) (a : Answer) → HandsBoth took took' old s
+    → Adds took'.trace s new accesses a → HandsBoth took took' (added old accesses a) new
+then_added took took' old s new accesses a h k = both_added took took' took' old s new accesses a h (record {
+  out = hands_as took'.out took'.out new.out (s.out ++ out_part s.regs accesses a) new.out k.out (none_handed took'.out new.out);
+  trace = told took'.trace k.trace;
+  regs = k.regs;
+}) where
+  told : (t : Option (List ℕ)) → ((taken : List ℕ) → t ≡ Some taken → new.trace ≡ s.trace ++ trace_part accesses a) → HandsTold t t (s.trace ++ trace_part accesses a) new.trace
+  told None e = refl
+  told (Some t) e = hands_as (Some t) (Some t) new.trace (s.trace ++ trace_part accesses a) new.trace (e t refl) (none_handed (Some t) new.trace)
 
 -- a line's texts and then what a line had added
 
 pub texts-nothing : (took : Took) (s : Texts) → AreEmpty s → HandsBoth took took (texts_of s.regs []) s
 texts-nothing took s e = record {
   out = hands_as took.out took.out s.out (out_text s.regs []) s.out (e.0 ∙ nothing s.regs) (none_handed took.out s.out);
-  trace = hands_as took.trace took.trace s.trace [] s.trace e.1 (none_handed took.trace s.trace);
+  trace = told_handed took.trace took.trace [] s.trace (hands_as took.trace took.trace s.trace [] s.trace e.1 (none_handed took.trace s.trace));
   regs = refl;
 } where
   nothing : (regs : Bool) → [] ≡ out_text regs []
@@ -105,7 +140,7 @@ texts-more took mid took' regs turns turn s new h k =
     let all = both_added took mid took' (texts_of regs turns) s new turn.accesses turn.answer h k in
     record {
       out = hands_as took.out took'.out _ (out_text regs (turns ++ turn ∷ [])) new.out (out_is-more regs turns turn) all.out;
-      trace = hands_as took.trace took'.trace _ (trace_text (turns ++ turn ∷ [])) new.trace (trace_is-more turns turn) all.trace;
+      trace = told_as took.trace took'.trace _ (trace_text (turns ++ turn ∷ [])) new.trace (trace_is-more turns turn) all.trace;
       regs = all.regs;
     }
 

@@ -1,9 +1,4 @@
-pub mod Breaks
-pub mod Windows
 pub mod Handed
-pub mod Gone
-pub mod Drafts
-pub mod Heads
 pub mod Turns
 pub mod Endings
 pub mod Exactly

@@ -3,14 +3,14 @@ use Rattle.std.proofs.Common.{◌≡◌, ℕ, ◌+◌, ◌≤◌, ◌<◌, List,
 use Rattle.std.specs.List.{AllByRecursion}
 use Rattle.std.proofs.lemmas.List.{append-nil}
 use Rattle.usb_edge.specs.Stream.{IsAtEnd}
+use Rattle.line_rules.specs.declared.rules.Mode.TheVariants as mode
+use Rattle.line_rules.specs.declared.rules.Place.TheVariants as place
+use Rattle.line_rules.specs.Rules.{most_line}
 use Rattle.usb_text.specs.declared.line.DevLine.{DevLine}
 use Rattle.usb_text.specs.declared.line.Answer.{Answer}
 use Rattle.usb_text.specs.declared.line.Line.TheVariants.{End}
-use Rattle.usb_text.specs.declared.rules.Mode.TheVariants as mode
-use Rattle.usb_text.specs.declared.rules.Place.TheVariants as place
 use Rattle.usb_text.specs.Line.{newline, line_text, schedule_text_of, IsDeviceLine}
 use Rattle.usb_text.specs.Plain.{is_plain}
-use Rattle.usb_text.specs.Rules.{most_line}
 use Rattle.controller_table.specs.State.{Table, opened}
 use Rattle.usb_descriptor.specs.Set.{Set}
 use Rattle.device_machine.specs.Core.{Core, start}
@@ -21,17 +21,17 @@ use Rattle.device_schedule.proofs.Answers.{core_state-more}
 use Rattle.device_schedule.proofs.Traces.{after_turns-more, trace-more}
 use Rattle.device_run.specs.Run.{Run, Steps}
 use Rattle.device_schedule.proofs.Closed.{closed_schedule}
-use Rattle.usbrun.specs.Stream.{bytes_left}
-use Rattle.usbrun.specs.Lines.{Finds, IsLineAt, Gone, IsCut, size_of}
-use Rattle.usbrun.specs.declared.lines.Lines.{Lines}
+use Rattle.job_reader.specs.Stream.{bytes_left}
+use Rattle.job_reader.specs.Lines.{Finds, IsLineAt, Gone, IsCut, size_of}
+use Rattle.job_reader.specs.declared.lines.Lines.{Lines}
 use Rattle.usbrun.specs.declared.texts.Texts.{Texts}
 use Rattle.usbrun.specs.declared.session.Session.{Session}
 use Rattle.usbrun.specs.declared.session.Stop.{Stop}
 use Rattle.usbrun.specs.declared.session.Stop.TheVariants as stop
 use Rattle.usbrun.specs.Texts.{Took, HandsBoth, added, texts_of, AreEmpty}
 use Rattle.usbrun.specs.Session.{Looks, Answers, Keeps, Halted, TakesLine, IsHalt, Turns, Halts, Goes, Progress, Runs}
-use Rattle.usbrun.proofs.Gone.{line_at, line_taken, line_size, gone_nothing, gone_found, gone_more}
-use Rattle.usbrun.proofs.Heads.{too_long}
+use Rattle.job_reader.proofs.Gone.{line_at, line_taken, line_size, gone_nothing, gone_found, gone_more}
+use Rattle.job_reader.proofs.Heads.{too_long}
 use Rattle.usbrun.proofs.Handed.{both_more, both_added, both_nothing, texts-more, texts-nothing}
 
 -- the causes of a run's end at the line in front

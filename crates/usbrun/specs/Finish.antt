@@ -1,8 +1,8 @@
 -- How a run that stopped ends.
 use Rattle.std.specs.Prelude.{◌≡◌, ℕ, ◌+◌, ◌⊎◌}
 use Rattle.usbrun.specs.Texts.{AreEmpty, OneRose}
-use Rattle.usbrun.specs.declared.head.NoHead.{NoHead}
-use Rattle.usbrun.specs.declared.head.NoHead.TheVariants as no
+use Rattle.job_reader.specs.declared.head.NoHead.{NoHead}
+use Rattle.job_reader.specs.declared.head.NoHead.TheVariants as no
 use Rattle.usbrun.specs.declared.session.Stop.{Stop}
 use Rattle.usbrun.specs.declared.session.Stop.TheVariants as stop
 use Rattle.usbrun.specs.declared.texts.Texts.{Texts}

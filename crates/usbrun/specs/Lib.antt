@@ -1,7 +1,4 @@
 pub mod Stream
-pub mod Lines
-pub mod Draft
-pub mod Head
 pub mod Texts
 pub mod Session
 pub mod Finish

@@ -1,9 +1,9 @@
 -- What a run read of its source.
 use Rattle.std.specs.Prelude.{◌≡◌, ℕ, ◌≤◌, List, [], ◌++◌, length, true, Option, Some, None}
+use Rattle.line_rules.specs.Rules.{most_line}
 use Rattle.usb_text.specs.declared.line.DevLine.{DevLine}
 use Rattle.usb_text.specs.declared.head.HeadLine.{HeadLine}
 use Rattle.usb_text.specs.Plain.{is_plain}
-use Rattle.usb_text.specs.Rules.{most_line}
 use Rattle.device_schedule.specs.Job.{IsAccepted, front_text, closed, is_whole, set_fault}
 use Rattle.device_schedule.specs.Outcome.{Front}
 

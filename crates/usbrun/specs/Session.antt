@@ -2,22 +2,22 @@
 use Rattle.std.specs.Prelude.{◌≡◌, ℕ, ◌+◌, ◌≤◌, ◌<◌, List, [], ◌∷◌, ◌++◌, true, length, take, drop, Option, Some, None, ⊤}
 use Rattle.std.specs.List.{AllByRecursion}
 use Rattle.controller_table.specs.State.{opened}
+use Rattle.line_rules.specs.declared.rules.Mode.TheVariants as mode
+use Rattle.line_rules.specs.declared.rules.Place.TheVariants as place
+use Rattle.line_rules.specs.Rules.{lowest}
 use Rattle.usb_text.specs.declared.line.DevLine.{DevLine}
 use Rattle.usb_text.specs.Scheduled.{Scheduled}
 use Rattle.usb_text.specs.declared.line.Line.TheVariants.{Device, End}
-use Rattle.usb_text.specs.declared.rules.Mode.TheVariants as mode
-use Rattle.usb_text.specs.declared.rules.Place.TheVariants as place
 use Rattle.usb_text.specs.Line.{newline, line_text, schedule_text_of, IsScheduled, IsDeviceLine}
 use Rattle.usb_text.specs.Plain.{is_plain}
-use Rattle.usb_text.specs.Rules.{lowest}
 use Rattle.device_schedule.specs.Schedule.{core_answer, core_state}
 use Rattle.device_schedule.specs.Job.{schedule_text, end_line, closed, given, most_bytes}
 use Rattle.device_schedule.specs.Trace.{Turn, after_turns, IsTrace}
 use Rattle.device_run.specs.Run.{Steps}
-use Rattle.usbrun.specs.Stream.{bytes_left}
-use Rattle.usbrun.specs.Lines.{Finds, IsNext, Gone, IsCut, size_of}
+use Rattle.job_reader.specs.Stream.{bytes_left}
+use Rattle.job_reader.specs.Lines.{Finds, IsNext, Gone, IsCut, size_of}
 use Rattle.usbrun.specs.Texts.{Took, HandsBoth, added, texts_of}
-use Rattle.usbrun.specs.declared.lines.Next.{Next}
+use Rattle.job_reader.specs.declared.lines.Next.{Next}
 use Rattle.usbrun.specs.declared.session.Session.{Session}
 use Rattle.usbrun.specs.declared.session.Stop.{Stop}
 use Rattle.usbrun.specs.declared.session.Stop.TheVariants as stop

@@ -1,5 +1,5 @@
 -- The two texts of a run: what a line adds to them, and what waits of them for the two sinks.
-use Rattle.std.specs.Prelude.{◌≡◌, ℕ, List, [], ◌++◌, map, Bool, true, false, Option, ◌⊎◌}
+use Rattle.std.specs.Prelude.{◌≡◌, ℕ, List, [], ◌++◌, map, Bool, true, false, Option, Some, None, ◌⊎◌}
 use Rattle.std.specs.List.{flat_map}
 use Rattle.dwc2_regs.specs.declared.access.Access.{Access}
 use Rattle.usb_edge.specs.Stream.{Rose}
@@ -19,16 +19,26 @@ access_lines accesses = flat_map access_line accesses
 abbrev pub trace_part : List Access → Answer → List ℕ
 trace_part accesses answer = access_lines accesses ++ answer_line answer
 
--- and to the program's output: the same where register lines are shown, else the answer's line
+-- the register lines of a text: all where they are shown, else none
+abbrev pub shown : Bool → List Access → List ℕ
+shown true accesses = access_lines accesses
+shown false accesses = []
+
+-- and what a line adds to that output
 abbrev pub out_part : Bool → List Access → Answer → List ℕ
-out_part true accesses answer = trace_part accesses answer
-out_part false accesses answer = answer_line answer
+out_part regs accesses answer = shown regs accesses ++ answer_line answer
 
 abbrev pub added : Texts → List Access → Answer → Texts
 added texts accesses answer = record texts {
   out = texts.out ++ out_part texts.regs accesses answer;
   trace = texts.trace ++ trace_part accesses answer;
 }
+
+-- what a line adds was put behind what waits. For a trace whose sink doesn't tell what it took nothing more is said.
+pub record Adds (traced : Option (List ℕ)) (old new : Texts) (accesses : List Access) (answer : Answer) : Type 0 where
+  pub out : new.out ≡ old.out ++ out_part old.regs accesses answer
+  pub trace : (taken : List ℕ) → traced ≡ Some taken → new.trace ≡ old.trace ++ trace_part accesses answer
+  pub regs : new.regs ≡ old.regs
 
 -- the output's text of many lines
 abbrev pub out_text : Bool → List Turn → List ℕ
@@ -52,10 +62,15 @@ pub record Took : Type 0 where
 abbrev pub both : Option (List ℕ) → Option (List ℕ) → Took
 both taken traced = record { out = taken; trace = traced }
 
+-- a sink took the front of a text, and the rest waits; of one that doesn't tell what it took, no more than that is said
+abbrev pub HandsTold : Option (List ℕ) → Option (List ℕ) → List ℕ → List ℕ → Type 0
+HandsTold None taken' waiting waiting' = taken' ≡ None
+HandsTold (Some taken) taken' waiting waiting' = Hands (Some taken) taken' waiting waiting'
+
 -- each sink took the front of its text, and the rest waits
 pub record HandsBoth (took took' : Took) (old new : Texts) : Type 0 where
   pub out : Hands took.out took'.out old.out new.out
-  pub trace : Hands took.trace took'.trace old.trace new.trace
+  pub trace : HandsTold took.trace took'.trace old.trace new.trace
   pub regs : new.regs ≡ old.regs
 
 -- one of two counts of faults rose

@@ -6,10 +6,6 @@ ghost use Rattle.std.specs.Prelude.{◌≡◌};
 ghost use Rattle.std.specs.Process.{exit_status};
 ghost use Rattle.usbrun.specs.Status.{status_number};
 
-mod draft;
-mod head;
-mod lines;
-mod reader;
 mod run;
 mod session;
 mod status;

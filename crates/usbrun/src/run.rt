@@ -6,13 +6,12 @@ ghost use Rattle.usb_text.specs.Scheduled.{device_line};
 ghost use Rattle.device_schedule.specs.Schedule.{core_answer};
 ghost use Rattle.device_schedule.specs.Job.{most_bytes};
 ghost use Rattle.device_run.specs.Run.{Steps};
-ghost use Rattle.usbrun.specs.Texts.{added, HasRooms, AreEmpty, both, OneRose};
-ghost use Rattle.usbrun.specs.Lines.{IsLineAt};
+ghost use Rattle.usbrun.specs.Texts.{Adds, HasRooms, AreEmpty, both, OneRose};
+ghost use Rattle.job_reader.specs.Lines.{IsLineAt};
 ghost use Rattle.usbrun.specs.Session.{Looks, FindsNext, Keeps, TakesLine, Goes, Runs};
 
-use crate::lines::Next;
-use crate::reader::line_break;
 use crate::session::{Session, Stop};
+use job_reader::{Next, line_break};
 use usb_edge::{Sink, Source};
 use usb_packet::BusAnswer;
 use usb_text::{DevCall, ScheduleLine, ServedLine, read_schedule};
@@ -76,7 +75,7 @@ fn go_on<S: Source, K: Sink, T: Sink>(
     }
 }
 
-#[tactic(auto, using(crate::proofs::Gone::finds_nothing, crate::proofs::Gone::line_found))]
+#[tactic(auto, using(job_reader::proofs::Gone::finds_nothing, job_reader::proofs::Gone::line_found))]
 /// Looks for the next line. What waits is handed on before anything is read; where that fails there is none.
 fn look<S: Source, K: Sink, T: Sink>(
     session: &mut Session,
@@ -103,6 +102,7 @@ fn look<S: Source, K: Sink, T: Sink>(
     Some(session.lines.find(src))
 }
 
+#[tactic(auto, using(crate::proofs::Handed::then_added))]
 /// Answers the line of `n` bytes that stands in front, and takes it with its newline.
 fn take_line<K: Sink, T: Sink>(
     session: &mut Session,
@@ -132,7 +132,7 @@ fn take_line<K: Sink, T: Sink>(
             if !make_room(session, out, trace) {
                 return Some(Stop::WriteFault);
             }
-            answer(session, &line);
+            answer(session, &line, trace);
             session.lines.take(n);
             None
         }
@@ -154,32 +154,30 @@ fn make_room<K: Sink, T: Sink>(session: &mut Session, out: &mut K, trace: &mut T
 }
 
 /// Lets the device answer a line, and puts its accesses and the answer behind what waits.
-fn answer(session: &mut Session, line: &ServedLine)
+fn answer<T: Sink>(session: &mut Session, line: &ServedLine, trace: &T)
     requires { HasRooms session.old.texts }
-    ensures texts { session.new.texts ≡ added session.old.texts session.new.run.log (core_answer session.old.run.core (device_line line.now)) }
+    ensures texts { Adds (T.taken trace.now) session.old.texts session.new.texts session.new.run.log (core_answer session.old.run.core (device_line line.now)) }
     ensures run { Steps session.old.run session.new.run (device_line line.now) (core_answer session.old.run.core (device_line line.now)) }
     ensures lines { session.new.lines ≡ session.old.lines }
 {
     match line {
         ServedLine::Bus(event) => {
             let answer = session.run.bus(event);
-            session.texts.push_bus(session.run.trace(), &answer);
+            session.texts.push_bus(session.run.trace(), &answer, trace);
         }
         ServedLine::Irq => {
             session.run.irq();
-            session
-                .texts
-                .push_bus(session.run.trace(), &BusAnswer::Done);
+            let accesses = session.run.trace();
+            session.texts.push_bus(accesses, &BusAnswer::Done, trace);
         }
         ServedLine::Task => {
             session.run.task();
-            session
-                .texts
-                .push_bus(session.run.trace(), &BusAnswer::Done);
+            let accesses = session.run.trace();
+            session.texts.push_bus(accesses, &BusAnswer::Done, trace);
         }
         ServedLine::State => {
             let reply = session.run.reply(&DevCall::State);
-            session.texts.push_reply(session.run.trace(), &reply);
+            session.texts.push_reply(session.run.trace(), &reply, trace);
         }
     }
 }

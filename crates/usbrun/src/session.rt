@@ -1,6 +1,6 @@
-use crate::lines::Lines;
 use crate::texts::Texts;
 use device_run::DeviceRun;
+use job_reader::Lines;
 
 /// A run between two lines of its schedule.
 #[derive(Drop)]

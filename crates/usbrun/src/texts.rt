@@ -1,6 +1,6 @@
-ghost use Rattle.std.specs.Prelude.{◌≡◌, ◌+◌, ◌≤◌, ◌↔◌, [], ◌++◌, false, length, if◌then◌else◌, IsTrue};
+ghost use Rattle.std.specs.Prelude.{◌≡◌, ◌+◌, ◌≤◌, ◌↔◌, [], ◌++◌, false, length, IsTrue};
 ghost use Rattle.usb_text.specs.declared.line.Answer.TheVariants.{Bus, Reply as TheReply};
-ghost use Rattle.usbrun.specs.Texts.{access_lines, added, HasRooms, AreEmpty, both, HandsBoth, OneRose};
+ghost use Rattle.usbrun.specs.Texts.{shown, Adds, HasRooms, AreEmpty, both, HandsBoth, OneRose};
 
 use crate::writer::Writer;
 use dwc2_regs::Access;
@@ -38,45 +38,54 @@ impl Texts {
         self.out.has_room() && self.trace.has_room()
     }
 
-    /// Adds a line's accesses, and what the device answers on the bus.
-    pub fn push_bus(&mut self, accesses: &[Access], answer: &BusAnswer)
+    /// Adds what a line adds, where the device's answer stands on the bus. A trace that is dropped anyway isn't made.
+    pub fn push_bus<T: Sink>(&mut self, accesses: &[Access], answer: &BusAnswer, trace: &T)
         requires room { HasRooms self.old }
         requires few { length accesses.now ≤ 400 }
-        ensures { self.new ≡ added self.old accesses.now (Bus answer.now) }
+        ensures { Adds (T.taken trace.now) self.old self.new accesses.now (Bus answer.now) }
     {
-        let from = self.push_accesses(accesses);
-        self.trace.push_bus(answer);
-        self.out.push_text(self.trace.since(from));
+        let traced = !trace.drops_all();
+        self.push_accesses(accesses, traced);
+        self.out.push_bus(answer);
+        if traced {
+            self.trace.push_bus(answer);
+        }
     }
 
     /// The same with a reply.
-    pub fn push_reply(&mut self, accesses: &[Access], reply: &Reply)
+    pub fn push_reply<T: Sink>(&mut self, accesses: &[Access], reply: &Reply, trace: &T)
         requires room { HasRooms self.old }
         requires few { length accesses.now ≤ 400 }
-        ensures { self.new ≡ added self.old accesses.now (TheReply reply.now) }
+        ensures { Adds (T.taken trace.now) self.old self.new accesses.now (TheReply reply.now) }
     {
-        let from = self.push_accesses(accesses);
-        self.trace.push_reply(reply);
-        self.out.push_text(self.trace.since(from));
+        let traced = !trace.drops_all();
+        self.push_accesses(accesses, traced);
+        self.out.push_reply(reply);
+        if traced {
+            self.trace.push_reply(reply);
+        }
     }
 
-    /// Adds register lines to the trace, and tells from where on the output has what it has: from them on, or behind them.
-    fn push_accesses(&mut self, accesses: &[Access]) -> usize
+    /// Adds register lines to the output where it shows them, and to the trace where that is made.
+    fn push_accesses(&mut self, accesses: &[Access], traced: bool)
         requires room { HasRooms self.old }
         requires few { length accesses.now ≤ 400 }
-        ensures texts { self.new ≡ record self.old { trace = self.old.trace ++ access_lines accesses.now } }
-        ensures length { length self.new.trace ≤ length self.old.trace + 6800 }
-        ensures from { result ≡ (if self.old.regs then length self.old.trace else length self.new.trace) }
-        ensures least { length self.old.trace ≤ result }
-        ensures most { result ≤ length self.new.trace }
+        ensures regs { self.new.regs ≡ self.old.regs }
+        ensures out { self.new.out ≡ self.old.out ++ shown self.old.regs accesses.now }
+        ensures trace { self.new.trace ≡ self.old.trace ++ shown traced accesses.now }
+        ensures out_length { length self.new.out ≤ length self.old.out + 6800 }
+        ensures trace_length { length self.new.trace ≤ length self.old.trace + 6800 }
     {
-        let start = self.trace.len();
-        self.trace.push_accesses(accesses);
-        if self.regs { start } else { self.trace.len() }
+        if self.regs {
+            self.out.push_accesses(accesses);
+        }
+        if traced {
+            self.trace.push_accesses(accesses);
+        }
     }
 
     /// Hands on all that waits, the trace first: whether both sinks took it.
-    #[tactic(auto, using(crate::proofs::Handed::none_handed))]
+    #[tactic(auto, using(crate::proofs::Handed::none_handed, crate::proofs::Handed::told_handed))]
     pub fn flush<K: Sink, T: Sink>(&mut self, out: &mut K, trace: &mut T) -> bool
         ensures hands { HandsBoth (both (K.taken out.old) (T.taken trace.old)) (both (K.taken out.new) (T.taken trace.new)) self.old self.new }
         ensures done { IsTrue result → AreEmpty self.new }

@@ -9,15 +9,13 @@ ghost use Rattle.usbrun.specs.Status.{Tells};
 ghost use Rattle.usbrun.specs.Written.{ways};
 ghost use Rattle.usbrun.specs.Top.{IsCommand, IsCommandOf, Ends, Cause, Exact, Completes};
 
-use crate::draft::Draft;
-use crate::head::{NoHead, read_heads};
-use crate::lines::Lines;
 use crate::run::run_schedule;
 use crate::session::{Session, Stop};
 use crate::status::Status;
 use crate::texts::Texts;
 use crate::writer::hand_on;
 use device_run::DeviceRun;
+use job_reader::{Draft, Lines, NoHead, read_heads};
 use std::alloc::Global;
 use usb_descriptor::{DescSet, EpLimits, SetFault, SetParts, read_set};
 use usb_edge::{Disks, Sink, Source};

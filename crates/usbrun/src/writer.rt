@@ -53,22 +53,6 @@ impl Writer {
         self.waiting.len() + MOST_TURN <= BLOCK
     }
 
-    /// How many bytes wait.
-    pub fn len(&self) -> usize
-        ensures { result ≡ length self.now }
-    {
-        self.waiting.len()
-    }
-
-    /// What waits behind the first `from` bytes.
-    pub fn since(&self, from: usize) -> &[u8]
-        requires { from ≤ length self.now }
-        ensures bytes { result.now ≡ drop from self.now }
-        ensures length { length result.now + from ≡ length self.now }
-    {
-        &self.waiting.as_slice()[from..]
-    }
-
     /// Puts the lines of accesses to registers behind what waits.
     pub fn push_accesses(&mut self, accesses: &[Access])
         requires { length self.old + 17 * length accesses.now ≤ 32768 }
@@ -94,14 +78,6 @@ impl Writer {
         ensures length { length self.new ≤ length self.old + 8200 }
     {
         push_reply_line(&mut self.waiting, reply);
-    }
-
-    /// Puts a text behind what waits.
-    pub fn push_text(&mut self, text: &[u8])
-        requires { length self.old + length text.now ≤ 32768 }
-        ensures { self.new ≡ self.old ++ text.now }
-    {
-        let _ = self.waiting.try_extend_from_slice(text);
     }
 
     /// Hands on all that waits: whether the sink took it.

@@ -1,6 +1,6 @@
 ghost use Rattle.std.specs.Prelude.{◌≡◌, ◌+◌, ◌^◌, ◌<◌, ◌≤◌, [], true, false, length, take, drop};
 ghost use Rattle.usb_edge.specs.Stream.{IsAtEnd};
-ghost use Rattle.usbrun.specs.Lines.{Finds, IsNext, size_of};
+ghost use Rattle.job_reader.specs.Lines.{Finds, IsNext, size_of};
 
 use crate::reader::{Reader, line_break};
 use usb_edge::{Got, Source};

@@ -1,8 +1,8 @@
 use Rattle.std.proofs.Common.{◌≡◌, ℕ, ◌≤◌, ◌+◌, ◌*◌, ◌-◌, Bool, true, false, length}
 use Rattle.usb_edge.specs.Stream.{IsAtEnd}
-use Rattle.usb_text.specs.Rules.{most_line}
-use Rattle.usbrun.specs.Lines.{Finds}
-use Rattle.usbrun.proofs.lines.Lines.find.Given as goal
+use Rattle.line_rules.specs.Rules.{most_line}
+use Rattle.job_reader.specs.Lines.{Finds}
+use Rattle.job_reader.proofs.lines.Lines.find.Given as goal
 
 abbrev pub still : Bool → ℕ
 still true = 0

@@ -7,9 +7,9 @@ use Rattle.usb_text.specs.Line.{newline}
 use Rattle.usb_text.specs.Plain.{is_plain}
 use Rattle.device_schedule.specs.Job.{closed, given}
 use Rattle.device_schedule.proofs.Closed.{closed_plain, closed_line, IsClosed}
-use Rattle.usbrun.specs.Stream.{Fills, IsLineBreak, bytes_left}
-use Rattle.usbrun.specs.Lines.{Finds, IsLineAt, Closes, Gone, size_of}
-use Rattle.usbrun.specs.declared.lines.Lines.{Lines}
+use Rattle.job_reader.specs.Stream.{Fills, IsLineBreak, bytes_left}
+use Rattle.job_reader.specs.Lines.{Finds, IsLineAt, Closes, Gone, size_of}
+use Rattle.job_reader.specs.declared.lines.Lines.{Lines}
 
 pub finds_nothing : (left : Option (List ℕ)) (s : Lines) → Finds left left s s
 finds_nothing left s = record {

@@ -1,6 +1,6 @@
 ghost use Rattle.std.specs.Prelude.{◌≡◌, ◌*◌, ◌≤◌, true};
 ghost use Rattle.usb_edge.specs.Stream.{Rose, IsAtEnd};
-ghost use Rattle.usbrun.specs.Head.{new_lines, most_heads, most_size, ReadsHead, ReadsHeads};
+ghost use Rattle.job_reader.specs.Head.{new_lines, most_heads, most_size, ReadsHead, ReadsHeads};
 
 use crate::draft::Draft;
 use crate::lines::{Lines, Next};
@@ -10,7 +10,7 @@ use usb_text::{HeadLine, read_head};
 /// Why the head was not read.
 #[derive(Clone, Copy, PartialEq, Eq, Debug)]
 pub enum NoHead {
-    /// The next line breaks this rule.
+    /// The next line breaks this rule, of 1 to 8.
     Refused(u8),
     /// The source ended.
     Short,

@@ -1,13 +1,13 @@
 -- Lines that were found and taken, one after another.
 use Rattle.std.specs.Prelude.{◌≡◌, ℕ, ◌+◌, ◌<◌, ◌≤◌, List, [], ◌∷◌, ◌++◌, true, false, length, take, drop, min, Option, ◌⊎◌}
 use Rattle.usb_edge.specs.Stream.{Reads, Rose}
+use Rattle.line_rules.specs.Rules.{most_line}
 use Rattle.usb_text.specs.Line.{newline}
 use Rattle.usb_text.specs.Plain.{is_plain}
-use Rattle.usb_text.specs.Rules.{most_line}
 use Rattle.device_schedule.specs.Job.{closed}
-use Rattle.usbrun.specs.declared.lines.Lines.{Lines}
-use Rattle.usbrun.specs.declared.lines.Next as declared
-use Rattle.usbrun.specs.declared.lines.Next.TheVariants.{Line, Nothing, TooLong, ReadFault}
+use Rattle.job_reader.specs.declared.lines.Lines.{Lines}
+use Rattle.job_reader.specs.declared.lines.Next as declared
+use Rattle.job_reader.specs.declared.lines.Next.TheVariants.{Line, Nothing, TooLong, ReadFault}
 
 -- how many bytes a line of n bytes has with its newline, where that is there
 abbrev pub size_of : ℕ → List ℕ → ℕ

@@ -1,6 +1,6 @@
 use Rattle.std.proofs.Common.{sym}
-use Rattle.usbrun.proofs.Heads.{heads_more, heads_whole, heads_fail}
-use Rattle.usbrun.proofs.head.read_heads.Goals as goal
+use Rattle.job_reader.proofs.Heads.{heads_more, heads_whole, heads_fail}
+use Rattle.job_reader.proofs.head.read_heads.Goals as goal
 
 pub returns-in-Err-clause-heads : goal.returns-in-Err-clause-heads
 returns-in-Err-clause-heads g c =

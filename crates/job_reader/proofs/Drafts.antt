@@ -10,10 +10,10 @@ use Rattle.usb_text.specs.declared.head.HeadLine.{HeadLine}
 use Rattle.usb_text.specs.declared.head.HeadLine.TheVariants as head
 use Rattle.usb_text.specs.Head.{IsHead}
 use Rattle.device_schedule.specs.Job.{Parts, with_line, parts_after, parts_of, nothing, last_after, follows, has_room, in_order, most_strings, GoOn, IsHeadSoFar, ends_head, is_whole as head_is_whole}
-use Rattle.usbrun.specs.Draft.{new_draft, stage_of, accepts, takes_device, takes_config, takes_text, takes_report, takes_begin, with_head, IsDraft, AscendTo, Ascends, rank, is_whole}
-use Rattle.usbrun.specs.declared.draft.Draft.{Draft}
-use Rattle.usbrun.specs.declared.draft.Stage.{Stage}
-use Rattle.usbrun.specs.declared.draft.Stage.TheVariants as stage
+use Rattle.job_reader.specs.Draft.{new_draft, stage_of, accepts, takes_device, takes_config, takes_text, takes_report, takes_begin, with_head, IsDraft, AscendTo, Ascends, rank, is_whole}
+use Rattle.job_reader.specs.declared.draft.Draft.{Draft}
+use Rattle.job_reader.specs.declared.draft.Stage.{Stage}
+use Rattle.job_reader.specs.declared.draft.Stage.TheVariants as stage
 
 and_true : (b : Bool) → (b && true) ≡ b
 and_true true = refl

@@ -5,7 +5,7 @@ use Rattle.std.proofs.lemmas.Bool.Decides.{nat_tests}
 use Rattle.memchr.specs.Find.{IsFirstByte, is_byte}
 use Rattle.usb_text.specs.Line.{newline}
 use Rattle.usb_text.specs.Plain.{is_plain}
-use Rattle.usbrun.specs.Stream.{IsLineBreak}
+use Rattle.job_reader.specs.Stream.{IsLineBreak}
 
 not_so : (b : Bool) → (b ≡ true → ⊥) → not b ≡ true
 not_so true h = absurd (h refl)

@@ -1,7 +1,7 @@
 use Rattle.std.proofs.Common.{arith}
 use Rattle.std.proofs.lemmas.Bool.Decides.{nat_tests}
-use Rattle.usbrun.proofs.Gone.{last_found}
-use Rattle.usbrun.proofs.lines.Lines.find.Goals as goal
+use Rattle.job_reader.proofs.Gone.{last_found}
+use Rattle.job_reader.proofs.lines.Lines.find.Goals as goal
 
 pub returns-else-len-eq0-clause-next : goal.returns-else-len-eq0-clause-next
 returns-else-len-eq0-clause-next g c =

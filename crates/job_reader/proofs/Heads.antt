@@ -4,27 +4,27 @@ use Rattle.std.proofs.lemmas.List.{append-nil, length-take-le}
 use Rattle.std.proofs.lemmas.Bool.Decides.{nat_tests}
 use Rattle.usb_edge.specs.Stream.{IsAtEnd, Rose}
 use Rattle.usb_edge.proofs.Streams.{rose_within}
+use Rattle.line_rules.specs.declared.rules.Mode.{Mode}
+use Rattle.line_rules.specs.declared.rules.Mode.TheVariants as mode
+use Rattle.line_rules.specs.declared.rules.Place.{Place}
+use Rattle.line_rules.specs.declared.rules.Place.TheVariants as place
+use Rattle.line_rules.specs.Rules.{lowest, most_line, rule_1}
 use Rattle.usb_text.specs.declared.head.HeadLine.{HeadLine}
-use Rattle.usb_text.specs.declared.rules.Mode.{Mode}
-use Rattle.usb_text.specs.declared.rules.Mode.TheVariants as mode
-use Rattle.usb_text.specs.declared.rules.Place.{Place}
-use Rattle.usb_text.specs.declared.rules.Place.TheVariants as place
 use Rattle.usb_text.specs.Line.{newline}
 use Rattle.usb_text.specs.Head.{head_text, IsHead}
 use Rattle.usb_text.specs.Plain.{is_plain}
-use Rattle.usb_text.specs.Rules.{lowest, most_line, rule_1}
 use Rattle.device_schedule.specs.Job.{closed, head_line, head_lines, is_whole}
 use Rattle.device_schedule.proofs.Closed.{closed_heads, begins}
-use Rattle.usbrun.specs.Stream.{bytes_left}
-use Rattle.usbrun.specs.Lines.{Finds, IsLineAt, Gone, IsCut, size_of}
-use Rattle.usbrun.specs.Draft.{new_draft, accepts, with_head, is_whole as is_whole_stage}
-use Rattle.usbrun.specs.Head.{new_lines, most_heads, TakesHead, BreaksHead, HeadCause, FailsHead, HeadSoFar, HeadStops}
-use Rattle.usbrun.specs.declared.lines.Lines.{Lines}
-use Rattle.usbrun.specs.declared.draft.Draft.{Draft}
-use Rattle.usbrun.specs.declared.head.NoHead.{NoHead}
-use Rattle.usbrun.specs.declared.head.NoHead.TheVariants.{Refused, Short, ReadFault}
-use Rattle.usbrun.proofs.Gone.{line_at, line_taken, line_size, gone_nothing, gone_found, gone_more}
-use Rattle.usbrun.proofs.Drafts.{accepts_in_order, draft_whole, draft_none, draft_more, so_far-more, rises_more, nearer, rank_most}
+use Rattle.job_reader.specs.Stream.{bytes_left}
+use Rattle.job_reader.specs.Lines.{Finds, IsLineAt, Gone, IsCut, size_of}
+use Rattle.job_reader.specs.Draft.{new_draft, accepts, with_head, is_whole as is_whole_stage}
+use Rattle.job_reader.specs.Head.{new_lines, most_heads, TakesHead, BreaksHead, HeadCause, FailsHead, HeadSoFar, HeadStops}
+use Rattle.job_reader.specs.declared.lines.Lines.{Lines}
+use Rattle.job_reader.specs.declared.draft.Draft.{Draft}
+use Rattle.job_reader.specs.declared.head.NoHead.{NoHead}
+use Rattle.job_reader.specs.declared.head.NoHead.TheVariants.{Refused, Short, ReadFault}
+use Rattle.job_reader.proofs.Gone.{line_at, line_taken, line_size, gone_nothing, gone_found, gone_more}
+use Rattle.job_reader.proofs.Drafts.{accepts_in_order, draft_whole, draft_none, draft_more, so_far-more, rises_more, nearer, rank_most}
 
 -- a line that was read and has its place
 pub head_taken : (line : HeadLine) (draft : Draft) (n : ℕ) (left left' : Option (List ℕ)) (old s new : Lines) → Finds left left' old s → IsLineAt n s

@@ -6,9 +6,9 @@ use Rattle.usb_descriptor.specs.Strings.{Ascend}
 use Rattle.usb_text.specs.declared.head.HeadLine.{HeadLine}
 use Rattle.usb_text.specs.declared.head.HeadLine.TheVariants.{Device, Config, Text, Report, Begin}
 use Rattle.device_schedule.specs.Job.{parts_of, last_after, most_strings}
-use Rattle.usbrun.specs.declared.draft.Draft.{Draft}
-use Rattle.usbrun.specs.declared.draft.Stage.{Stage}
-use Rattle.usbrun.specs.declared.draft.Stage.TheVariants as stage
+use Rattle.job_reader.specs.declared.draft.Draft.{Draft}
+use Rattle.job_reader.specs.declared.draft.Stage.{Stage}
+use Rattle.job_reader.specs.declared.draft.Stage.TheVariants as stage
 
 abbrev pub new_draft : Draft
 new_draft = record {

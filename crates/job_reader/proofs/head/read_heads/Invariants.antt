@@ -1,8 +1,8 @@
 use Rattle.std.proofs.Common.{◌≡◌, ◌≤◌, ◌-◌, true, false}
 use Rattle.usb_edge.specs.Stream.{IsAtEnd}
-use Rattle.usbrun.specs.Draft.{is_whole}
-use Rattle.usbrun.specs.Head.{HeadSoFar}
-use Rattle.usbrun.proofs.head.read_heads.Given as goal
+use Rattle.job_reader.specs.Draft.{is_whole}
+use Rattle.job_reader.specs.Head.{HeadSoFar}
+use Rattle.job_reader.proofs.head.read_heads.Given as goal
 
 abbrev pub invariant-heads : goal.invariant-heads
 invariant-heads g l = record {

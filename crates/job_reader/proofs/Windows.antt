@@ -5,7 +5,7 @@ use Rattle.std.specs.Prelude.{Option}
 use Rattle.std.proofs.Math.Seq.{take-add}
 use Rattle.usb_edge.proofs.Streams.{reads-nothing, reads-more}
 use Rattle.usb_edge.specs.Stream.{Reads}
-use Rattle.usbrun.specs.Stream.{Fills}
+use Rattle.job_reader.specs.Stream.{Fills}
 
 -- bytes put behind the window make it longer
 pub window_grows : (old new : List ℕ) (start at n : ℕ) → start ≤ at → at + n ≤ length new → take at new ≡ take at old

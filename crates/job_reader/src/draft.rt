@@ -1,6 +1,6 @@
 ghost use Rattle.std.specs.Prelude.{◌≡◌, ◌≤◌, true, length, is_some, IfSome};
 ghost use Rattle.std.specs.Option.{option_map};
-ghost use Rattle.usbrun.specs.Draft.{new_draft, accepts, with_head, takes_text, is_whole};
+ghost use Rattle.job_reader.specs.Draft.{new_draft, accepts, with_head, takes_text, is_whole};
 
 use arrayvec::ArrayVec;
 use usb_descriptor::StringPart;
@@ -25,13 +25,13 @@ pub enum Stage {
 /// What the lines of a head gave so far.
 #[derive(Drop)]
 pub struct Draft {
-    /// The device descriptor.
+    /// The device descriptor, of at most 64 bytes.
     pub device: ArrayVec<u8, 64>,
-    /// The configuration descriptor with all that comes with it.
+    /// The configuration descriptor with all that comes with it, of at most 600 bytes.
     pub config: ArrayVec<u8, 600>,
-    /// The strings, by rising indices.
+    /// The strings, at most 8, by rising indices.
     pub strings: ArrayVec<StringPart, 8>,
-    /// The report descriptor.
+    /// The report descriptor, of at most 512 bytes.
     pub report: Option<ArrayVec<u8, 512>>,
     stage: Stage,
 }

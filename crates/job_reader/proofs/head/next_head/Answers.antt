@@ -1,7 +1,7 @@
 use Rattle.std.proofs.Common.{sym, ◌∙◌, inl, inr, refl}
 use Rattle.usb_text.proofs.Plain.{head_is_short}
-use Rattle.usbrun.proofs.Heads.{head_taken, head_refused, head_long}
-use Rattle.usbrun.proofs.head.next_head.Goals as goal
+use Rattle.job_reader.proofs.Heads.{head_taken, head_refused, head_long}
+use Rattle.job_reader.proofs.head.next_head.Goals as goal
 
 pub returns-then-not-accepts-clause-head : goal.returns-then-not-accepts-clause-head
 returns-then-not-accepts-clause-head g c =

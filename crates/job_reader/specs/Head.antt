@@ -1,21 +1,21 @@
 -- What reading a head did.
 use Rattle.std.specs.Prelude.{◌≡◌, ℕ, ◌+◌, ◌*◌, ◌<◌, ◌≤◌, List, [], ◌∷◌, ◌++◌, length, true, false, ◌⊎◌, Option, Some, Result, Ok, Err}
 use Rattle.usb_edge.specs.Stream.{Rose}
+use Rattle.line_rules.specs.declared.rules.Mode.TheVariants as mode
+use Rattle.line_rules.specs.declared.rules.Place.TheVariants as place
+use Rattle.line_rules.specs.Rules.{lowest, most_line}
 use Rattle.usb_text.specs.declared.head.HeadLine.{HeadLine}
-use Rattle.usb_text.specs.declared.rules.Mode.TheVariants as mode
-use Rattle.usb_text.specs.declared.rules.Place.TheVariants as place
 use Rattle.usb_text.specs.Line.{newline}
 use Rattle.usb_text.specs.Head.{head_text, IsHead}
 use Rattle.usb_text.specs.Plain.{is_plain}
-use Rattle.usb_text.specs.Rules.{lowest, most_line}
 use Rattle.device_schedule.specs.Job.{head_line, head_lines, closed, IsHeadSoFar, is_whole}
-use Rattle.usbrun.specs.Stream.{bytes_left}
-use Rattle.usbrun.specs.Lines.{Finds, Gone, IsCut}
-use Rattle.usbrun.specs.Draft.{IsDraft, Ascends, accepts, rank}
-use Rattle.usbrun.specs.declared.lines.Lines.{Lines}
-use Rattle.usbrun.specs.declared.draft.Draft.{Draft}
-use Rattle.usbrun.specs.declared.head.NoHead.{NoHead}
-use Rattle.usbrun.specs.declared.head.NoHead.TheVariants.{Refused, Short, ReadFault}
+use Rattle.job_reader.specs.Stream.{bytes_left}
+use Rattle.job_reader.specs.Lines.{Finds, Gone, IsCut}
+use Rattle.job_reader.specs.Draft.{IsDraft, Ascends, accepts, rank}
+use Rattle.job_reader.specs.declared.lines.Lines.{Lines}
+use Rattle.job_reader.specs.declared.draft.Draft.{Draft}
+use Rattle.job_reader.specs.declared.head.NoHead.{NoHead}
+use Rattle.job_reader.specs.declared.head.NoHead.TheVariants.{Refused, Short, ReadFault}
 
 abbrev pub new_lines : Lines
 new_lines = record { reader = []; ended = false; count = 0; lines = 0 }

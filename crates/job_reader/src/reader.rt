@@ -1,8 +1,8 @@
 ghost use Rattle.std.specs.Prelude.{◌≡◌, ℕ, ◌+◌, ◌-◌, ◌<◌, ◌≤◌, List, [], length, take, drop};
 ghost use Rattle.usb_edge.specs.Stream.{Reads, Rose, IsAtEnd};
 ghost use Rattle.usb_edge.specs.Outcome.{IfGot};
-ghost use Rattle.usb_text.specs.Rules.{most_line};
-ghost use Rattle.usbrun.specs.Stream.{Fills, IsLineBreak};
+ghost use Rattle.line_rules.specs.Rules.{most_line};
+ghost use Rattle.job_reader.specs.Stream.{Fills, IsLineBreak};
 
 use memchr::memchr;
 use std::marker::Model;
@@ -11,7 +11,7 @@ use usb_edge::{Got, Source};
 /// How many bytes one read may bring.
 const BLOCK: usize = 32768;
 
-/// The bytes that were read from a source and not yet taken.
+/// The bytes that were read from a source and not yet taken, at most 32,768.
 #[derive(Drop)]
 pub struct Reader {
     buffer: [u8; 32768],
@@ -118,7 +118,7 @@ fn read_at<S: Source>(buffer: &mut [u8], at: usize, src: &mut S) -> Got
 }
 
 #[tactic(auto, using(crate::proofs::Breaks::line_broken))]
-/// Where the first newline is.
+/// Where the first newline is, as a place in the bytes, counted from 0.
 pub fn line_break(bytes: &[u8]) -> Option<usize>
     ensures { IsLineBreak bytes.now result }
 {

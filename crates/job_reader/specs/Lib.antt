@@ -1,0 +1,4 @@
+pub mod Stream
+pub mod Lines
+pub mod Draft
+pub mod Head
