@@ -4,7 +4,7 @@ use Rattle.std.specs.List.{AllByRecursion}
 use Rattle.register_text.specs.Access.{IsAccess}
 use Rattle.usb_packet.specs.declared.bus.BusAnswer.TheVariants.{Done}
 use Rattle.dwc2_regs.specs.declared.access.Access.{Access}
-use Rattle.controller_table.specs.Bank.{Bank, begun}
+use Rattle.device_table.specs.Bank.{Bank, begun}
 use Rattle.dwc2_access.specs.Run.{AreSteps, accesses_after}
 use Rattle.usb_text.specs.declared.line.DevLine.TheVariants.{Irq, Task}
 use Rattle.usb_text.specs.declared.line.Answer.TheVariants.{Bus as TheBus}

@@ -1,7 +1,7 @@
 -- A device between two lines of its schedule, and what a line makes of it.
 use Rattle.std.specs.Prelude.{◌≡◌, List}
 use Rattle.dwc2_regs.specs.declared.access.Access.{Access}
-use Rattle.controller_table.specs.State.{Table}
+use Rattle.device_table.specs.State.{Table}
 use Rattle.usb_descriptor.specs.Set.{Set}
 use Rattle.usb_text.specs.declared.line.DevLine.{DevLine}
 use Rattle.usb_text.specs.declared.line.Answer.{Answer}

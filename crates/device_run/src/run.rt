@@ -1,12 +1,12 @@
 ghost use Rattle.std.specs.Prelude.{◌≡◌, ◌<◌, ◌^◌, [], IfOk};
 ghost use Rattle.usb_descriptor.specs.Set.{IsAccepted};
-ghost use Rattle.controller_table.specs.State.{opened};
+ghost use Rattle.device_table.specs.State.{opened};
 ghost use Rattle.device_machine.specs.Core.{start};
 ghost use Rattle.device_schedule.specs.Job.{limits};
 ghost use Rattle.std.specs.List.{AllByRecursion};
 ghost use Rattle.register_text.specs.Access.{IsAccess};
 
-use device_driver_relation::laws::event_fits;
+use device_relation::laws::event_fits;
 use dwc2_access::Regs;
 use dwc2_devmodel::DevCore;
 use dwc2_regs::{Access, FS4};

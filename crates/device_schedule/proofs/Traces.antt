@@ -3,7 +3,7 @@ use Rattle.std.proofs.Common.{◌≡◌, ℕ, List, [], ◌∷◌, ◌++◌, Boo
 use Rattle.std.specs.List.{flat_map, list_all, onto_first}
 use Rattle.std.proofs.lemmas.List.{append-nil}
 use Rattle.dwc2_regs.specs.declared.access.Access.{Access}
-use Rattle.controller_table.specs.State.{Table, opened}
+use Rattle.device_table.specs.State.{Table, opened}
 use Rattle.usb_descriptor.specs.Set.{Set}
 use Rattle.register_text.specs.declared.access.Side.TheVariants.{Plain}
 use Rattle.usb_text.specs.declared.line.DevLine.{DevLine}

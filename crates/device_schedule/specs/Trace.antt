@@ -2,9 +2,9 @@
 use Rattle.std.specs.Prelude.{◌≡◌, ◌≤◌, ℕ, List, [], ◌∷◌, ◌++◌, length, map, filter, Bool, false, not, ◌==◌, ◌&&◌, ◌||◌, if◌then◌else◌}
 use Rattle.std.specs.List.{flat_map, onto_first, AllByRecursion}
 use Rattle.dwc2_regs.specs.declared.access.Access.{Access}
-use Rattle.controller_table.specs.State.{Table, opened}
-use Rattle.controller_table.specs.Bank.{most_accesses}
-use Rattle.controller_table.specs.Bus as table
+use Rattle.device_table.specs.State.{Table, opened}
+use Rattle.device_table.specs.Bank.{most_accesses}
+use Rattle.device_table.specs.Bus as table
 use Rattle.dwc2_access.specs.Run.{AreSteps, accesses_after}
 use Rattle.usb_descriptor.specs.Set.{Set}
 use Rattle.register_text.specs.declared.access.Side.TheVariants.{Plain}

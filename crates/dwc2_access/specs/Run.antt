@@ -1,9 +1,9 @@
 -- A list of accesses to registers as a run of the controller's table.
 use Rattle.std.specs.Prelude.{◌≡◌, Bool, true, false, if◌then◌else◌, List, [], ◌∷◌}
 use Rattle.dwc2_regs.specs.declared.access.Access.{Access}
-use Rattle.controller_table.specs.State.{Table}
-use Rattle.controller_table.specs.Read.{read_value, read_table}
-use Rattle.controller_table.specs.Write.{write_table}
+use Rattle.device_table.specs.State.{Table}
+use Rattle.device_table.specs.Read.{read_value, read_table}
+use Rattle.device_table.specs.Write.{write_table}
 use Rattle.dwc2_access.specs.Registers.{IsRegister}
 
 -- the controller after an access

@@ -1,7 +1,7 @@
 -- Registers with the list of the accesses to them.
 use Rattle.std.specs.Prelude.{◌-◌, min, List, length}
 use Rattle.dwc2_regs.specs.declared.access.Access.{Access}
-use Rattle.controller_table.specs.Bank.{Bank, most_accesses}
+use Rattle.device_table.specs.Bank.{Bank, most_accesses}
 
 -- the inner registers, with this list as the accesses made: no more may be made than the inner ones allow, and than the
 -- list has places left for

@@ -1,6 +1,6 @@
 ghost use Rattle.std.specs.Prelude.{◌≡◌, ◌≤◌, []};
-ghost use Rattle.controller_table.specs.Bank.{Bank, begun, bank_read, bank_write};
-ghost use Rattle.controller_table.specs.Read.{read_value};
+ghost use Rattle.device_table.specs.Bank.{Bank, begun, bank_read, bank_write};
+ghost use Rattle.device_table.specs.Read.{read_value};
 ghost use Rattle.dwc2_access.specs.Registers.{IsRegister};
 
 /// The registers and FIFO windows of one controller.

@@ -4,9 +4,9 @@ use Rattle.dwc2_regs.specs.Word.{word_of}
 use Rattle.dwc2_regs.specs.Register.{fifo}
 use Rattle.dwc2_fifo.specs.Words.{words_of, word_count}
 use Rattle.dwc2_fifo.proofs.WordsLemmas.{words_of-split}
-use Rattle.controller_table.specs.State.{Table}
-use Rattle.controller_table.specs.Write.{after_write}
-use Rattle.device_driver_relation.specs.Run.{words_written}
+use Rattle.device_table.specs.State.{Table}
+use Rattle.device_table.specs.Write.{after_write}
+use Rattle.device_relation.specs.Run.{words_written}
 
 pub written_step : (t : Table) (bytes word behind : List ℕ) → 0 < length bytes → word ≡ take (min (length bytes) 4) bytes → behind ≡ drop (min (length bytes) 4) bytes
     → words_written t (words_of bytes) ≡ words_written (after_write t (fifo 0) (word_of word)) (words_of behind)

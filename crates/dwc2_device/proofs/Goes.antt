@@ -1,6 +1,6 @@
 -- One access.
 use Rattle.std.proofs.Common.{◌≡◌, ◌≤◌, ℕ, [], ◌∷◌, ◌++◌, true, refl, ap, ◌∙◌}
-use Rattle.controller_table.specs.Bank.{Bank, bank_read, bank_write}
+use Rattle.device_table.specs.Bank.{Bank, bank_read, bank_write}
 use Rattle.dwc2_access.specs.Registers.{IsRegister}
 use Rattle.dwc2_device.specs.Driver.{GoesOn, reads, writes, Wakes}
 

@@ -6,10 +6,10 @@ use Rattle.dwc2_regs.specs.Word.{bytes_of}
 use Rattle.dwc2_regs.specs.Register.{grxstsp, fifo}
 use Rattle.dwc2_fifo.specs.Words.{bytes_in}
 use Rattle.dwc2_fifo.specs.Rx.{first_word, words_behind}
-use Rattle.controller_table.specs.State.{Table}
-use Rattle.controller_table.specs.Read.{value_read, after_read}
-use Rattle.device_driver_relation.specs.Software.{Joint}
-use Rattle.device_driver_relation.specs.Run.{with_table, after_words, words_read, entry_taken, entries_taken, popped_all}
+use Rattle.device_table.specs.State.{Table}
+use Rattle.device_table.specs.Read.{value_read, after_read}
+use Rattle.device_relation.specs.Software.{Joint}
+use Rattle.device_relation.specs.Run.{with_table, after_words, words_read, entry_taken, entries_taken, popped_all}
 
 one_less : (n i : ℕ) → i < n → n - i ≡ suc (n - (i + 1))
 one_less n i h = omega arith

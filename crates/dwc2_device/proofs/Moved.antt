@@ -2,10 +2,10 @@
 use Rattle.std.proofs.Common.{◌≡◌, ℕ, ◌+◌, ◌≤◌, length, length-append, arith, true, false, List, [], ◌∷◌, ◌++◌, refl, ap, sym, ◌∙◌, subst, append_assoc}
 use Rattle.std.proofs.lemmas.List.{append-nil}
 use Rattle.dwc2_regs.specs.declared.access.Access.{Access}
-use Rattle.controller_table.specs.State.{Table}
-use Rattle.controller_table.specs.Bank.{Bank, bank_read, bank_write}
-use Rattle.controller_table.specs.Read.{read_value, read_table}
-use Rattle.controller_table.specs.Write.{write_table}
+use Rattle.device_table.specs.State.{Table}
+use Rattle.device_table.specs.Bank.{Bank, bank_read, bank_write}
+use Rattle.device_table.specs.Read.{read_value, read_table}
+use Rattle.device_table.specs.Write.{write_table}
 use Rattle.dwc2_access.specs.Run.{IsStep, AreSteps, access_after, accesses_after}
 use Rattle.dwc2_device.specs.Driver.{Moves, stays, reads, writes}
 

@@ -1,8 +1,8 @@
 -- The opened state.
 use Rattle.std.proofs.Common.{◌≡◌, false, refl, ap, ◌∙◌}
-use Rattle.controller_table.specs.State.{Table, first, opened}
-use Rattle.device_driver_relation.specs.Software.{Software, Joint, unused}
-use Rattle.device_driver_relation.specs.Laws.{at_start}
+use Rattle.device_table.specs.State.{Table, first, opened}
+use Rattle.device_relation.specs.Software.{Software, Joint, unused}
+use Rattle.device_relation.specs.Laws.{at_start}
 use Rattle.dwc2_device.specs.Init.{masks_written, channels_masked, sizes_written}
 
 is_opened : sizes_written (channels_masked (masks_written first)) ≡ opened

@@ -1,23 +1,23 @@
 -- Controller and software agree after each call.
 use Rattle.std.proofs.Common.{◌≡◌, ℕ, suc, ◌+◌, ◌-◌, ◌<◌, ◌≤◌, List, [], ◌∷◌, ◌++◌, arith, Bool, true, false, Option, Some, None, refl, ap, sym, ◌∙◌, subst}
 use Rattle.std.specs.Prelude.{IsTrue}
-use Rattle.device_driver_relation.specs.Software.{Software, Joint}
-use Rattle.device_driver_relation.specs.Relation.{IsSound, IsPacket, Stands, abstract}
-use Rattle.device_driver_relation.specs.Port.{Port, StandsFor, port_of, after_handler, may_start, started, armed, stalled, addressed, with_endpoint, without_endpoints, has_address}
-use Rattle.device_driver_relation.specs.Run.{run, run_start, run_arm, run_stall, run_address, run_close, run_open_out, run_open_in, open_word}
+use Rattle.device_relation.specs.Software.{Software, Joint}
+use Rattle.device_relation.specs.Relation.{IsSound, IsPacket, Stands, abstract}
+use Rattle.device_relation.specs.Port.{Port, StandsFor, port_of, after_handler, may_start, started, armed, stalled, addressed, with_endpoint, without_endpoints, has_address}
+use Rattle.device_relation.specs.Run.{run, run_start, run_arm, run_stall, run_address, run_close, run_open_out, run_open_in, open_word}
 use Rattle.device_machine.specs.declared.control.Stage.{Stage}
 use Rattle.device_machine.specs.Bus.{Bus, unconfigured}
-use Rattle.controller_table.specs.State.{Table}
-use Rattle.device_driver_relation.specs.Laws.{at_start}
+use Rattle.device_table.specs.State.{Table}
+use Rattle.device_relation.specs.Laws.{at_start}
 use Rattle.dwc2_device.specs.Notes.{rest_of, without_note, NotesKeep}
-use Rattle.device_driver_relation.proofs.Events.{starts}
-use Rattle.device_driver_relation.proofs.Closes.{close_for}
-use Rattle.device_driver_relation.proofs.Opens.{open_out_for, open_in_for}
+use Rattle.device_relation.proofs.Events.{starts}
+use Rattle.device_relation.proofs.Closes.{close_for}
+use Rattle.device_relation.proofs.Opens.{open_out_for, open_in_for}
 use Rattle.dwc2_regs.specs.Register.{doepctl}
-use Rattle.controller_table.specs.Write.{after_write}
+use Rattle.device_table.specs.Write.{after_write}
 use Rattle.usb_descriptor.specs.declared.endpoint.Endpoint.{Endpoint}
-use Rattle.device_driver_relation.proofs.Runs.{run_for, port_is}
-use Rattle.device_driver_relation.proofs.Calls.{start_for, arm_for, stall_for, address_for}
+use Rattle.device_relation.proofs.Runs.{run_for, port_is}
+use Rattle.device_relation.proofs.Calls.{start_for, arm_for, stall_for, address_for}
 
 -- the two are the device that they are
 itself : (j : Joint) → IsSound j → StandsFor j (port_of j)

@@ -1,9 +1,9 @@
 -- The driver with its controller, and how the controller moves.
 use Rattle.std.specs.Prelude.{◌≡◌, ◌≤◌, ℕ, List, [], ◌∷◌, ◌++◌, true}
 use Rattle.dwc2_regs.specs.declared.access.Access.{Access}
-use Rattle.controller_table.specs.Bank.{Bank, bank_read, bank_write}
+use Rattle.device_table.specs.Bank.{Bank, bank_read, bank_write}
 use Rattle.dwc2_access.specs.Registers.{IsRegister}
-use Rattle.device_driver_relation.specs.Software.{Software, Joint}
+use Rattle.device_relation.specs.Software.{Software, Joint}
 
 pub record Driver : Type 0 where
   pub bank : Bank

@@ -1,8 +1,8 @@
 -- The registers that a driver writes at its start: masks and the sizes of FIFOs.
 use Rattle.std.specs.Prelude.{ℕ}
 use Rattle.dwc2_regs.specs.Register.{gintmsk, grxfsiz, dieptxf0, haintmsk, diepmsk, doepmsk, daintmsk, dieptxf, hcintmsk}
-use Rattle.controller_table.specs.State.{Table, all_ones, fifo_size}
-use Rattle.controller_table.specs.Write.{after_write}
+use Rattle.device_table.specs.State.{Table, all_ones, fifo_size}
+use Rattle.device_table.specs.Write.{after_write}
 
 unfoldable pub masks_written : Table → Table
 masks_written t =

@@ -2,8 +2,8 @@
 use Rattle.std.specs.Prelude.{◌≡◌, ℕ, Bool, true, false, List, Option, Some, None}
 use Rattle.device_machine.specs.declared.control.Stage.{Stage}
 use Rattle.device_machine.specs.declared.control.Stage.TheVariants.{Sent, Came}
-use Rattle.device_driver_relation.specs.Software.{Software, Joint}
-use Rattle.device_driver_relation.specs.Relation.{IsSound, abstract}
+use Rattle.device_relation.specs.Software.{Software, Joint}
+use Rattle.device_relation.specs.Relation.{IsSound, abstract}
 use Rattle.dwc2_device.specs.declared.notes.Note.{Note}
 use Rattle.dwc2_device.specs.declared.notes.Note.TheVariants.{Reset, Ep0In, Ep0Out, Setup}
 

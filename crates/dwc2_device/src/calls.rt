@@ -1,17 +1,17 @@
 //! The calls between handler runs.
 ghost use Rattle.std.specs.Prelude.{◌≡◌, ℕ, ◌+◌, ◌≤◌, ◌<◌, [], true, false, IsTrue, Some, None, length, slice_index};
 ghost use Rattle.dwc2_regs.specs.Register.{diepctl, doepctl};
-ghost use Rattle.controller_table.specs.Write.{after_write};
-ghost use Rattle.device_driver_relation.specs.Relation.{IsSound, IsPacket};
-ghost use Rattle.device_driver_relation.specs.Port.{port_of, may_start, started, armed, stalled, addressed, without_endpoints};
-ghost use Rattle.device_driver_relation.specs.Run.{with_table, unstalled, out_armed, run_start, run_arm, run_stall, run_address, run_close};
+ghost use Rattle.device_table.specs.Write.{after_write};
+ghost use Rattle.device_relation.specs.Relation.{IsSound, IsPacket};
+ghost use Rattle.device_relation.specs.Port.{port_of, may_start, started, armed, stalled, addressed, without_endpoints};
+ghost use Rattle.device_relation.specs.Run.{with_table, unstalled, out_armed, run_start, run_arm, run_stall, run_address, run_close};
 ghost use Rattle.dwc2_device.specs.Driver.{joint, GoesOn};
 
 use crate::DevPort;
 use crate::words::STALL;
 use arrayvec::ArrayVec;
-use device_driver_relation::Ready;
-use device_driver_relation::laws::packet_fits;
+use device_relation::Ready;
+use device_relation::laws::packet_fits;
 use dwc2_access::Regs;
 use usb_packet::Packet;
 

@@ -1,10 +1,10 @@
 //! The endpoints other than 0: each belongs to the core, and answers NAK while it is open.
 ghost use Rattle.std.specs.Prelude.{◌≡◌, ◌+◌, ◌-◌, ◌*◌, ◌^◌, ◌≤◌, ◌<◌, ◌⊎◌, [], ◌∷◌, ◌++◌, false, length};
 ghost use Rattle.dwc2_regs.specs.Register.{diepctl, doepctl};
-ghost use Rattle.controller_table.specs.Write.{after_write};
-ghost use Rattle.device_driver_relation.specs.Relation.{IsSound};
-ghost use Rattle.device_driver_relation.specs.Port.{port_of, with_endpoint, has_address};
-ghost use Rattle.device_driver_relation.specs.Run.{run_open_out, run_open_in, open_word};
+ghost use Rattle.device_table.specs.Write.{after_write};
+ghost use Rattle.device_relation.specs.Relation.{IsSound};
+ghost use Rattle.device_relation.specs.Port.{port_of, with_endpoint, has_address};
+ghost use Rattle.device_relation.specs.Run.{run_open_out, run_open_in, open_word};
 ghost use Rattle.dwc2_device.specs.Driver.{joint, GoesOn};
 
 use crate::DevPort;

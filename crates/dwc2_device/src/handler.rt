@@ -2,18 +2,18 @@
 ghost use Rattle.std.specs.Prelude.{◌≡◌, ℕ, ◌+◌, ◌*◌, ◌≤◌, ◌<◌, [], true, false, Some, None};
 ghost use Rattle.dwc2_regs.specs.declared.TheConstants.{GINTSTS_USBRST};
 ghost use Rattle.dwc2_regs.specs.Register.{gintsts, diepint};
-ghost use Rattle.controller_table.specs.Read.{value_read};
-ghost use Rattle.controller_table.specs.Words.{flag};
-ghost use Rattle.device_driver_relation.specs.Relation.{IsSound};
-ghost use Rattle.device_driver_relation.specs.Port.{port_of, after_handler};
-ghost use Rattle.device_driver_relation.specs.Run.{with_table, run, served_by, rest_served, sent_noted, sent_served, last_served, acknowledged, cleared_ack};
-ghost use Rattle.device_driver_relation.specs.declared.software.Ready.TheVariants.{Loaded, Last};
+ghost use Rattle.device_table.specs.Read.{value_read};
+ghost use Rattle.device_table.specs.Words.{flag};
+ghost use Rattle.device_relation.specs.Relation.{IsSound};
+ghost use Rattle.device_relation.specs.Port.{port_of, after_handler};
+ghost use Rattle.device_relation.specs.Run.{with_table, run, served_by, rest_served, sent_noted, sent_served, last_served, acknowledged, cleared_ack};
+ghost use Rattle.device_relation.specs.declared.software.Ready.TheVariants.{Loaded, Last};
 ghost use Rattle.dwc2_device.specs.Driver.{joint, GoesOn, Wakes};
 
 use crate::DevPort;
 use crate::words::XFRC;
-use device_driver_relation::Ready;
 use device_machine::Stage;
+use device_relation::Ready;
 use dwc2_access::Regs;
 use dwc2_regs::{DIEPINT_XFRC, GINTSTS, GINTSTS_USBRST, diepint, get_field};
 

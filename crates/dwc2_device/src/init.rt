@@ -2,12 +2,12 @@
 ghost use Rattle.std.specs.Prelude.{◌≡◌, ◌+◌, ◌*◌, ◌≤◌, [], false};
 ghost use Rattle.dwc2_regs.specs.Register.{dieptxf};
 ghost use Rattle.device_machine.specs.Bus.{unconfigured};
-ghost use Rattle.controller_table.specs.State.{first, rx_depth, tx0_depth, tx_depth, in_count, out_count, fifo_size};
-ghost use Rattle.controller_table.specs.Write.{after_write};
-ghost use Rattle.device_driver_relation.specs.Software.{unused};
-ghost use Rattle.device_driver_relation.specs.Relation.{IsSound, abstract};
-ghost use Rattle.device_driver_relation.specs.Laws.{at_start};
-ghost use Rattle.device_driver_relation.specs.Run.{with_table};
+ghost use Rattle.device_table.specs.State.{first, rx_depth, tx0_depth, tx_depth, in_count, out_count, fifo_size};
+ghost use Rattle.device_table.specs.Write.{after_write};
+ghost use Rattle.device_relation.specs.Software.{unused};
+ghost use Rattle.device_relation.specs.Relation.{IsSound, abstract};
+ghost use Rattle.device_relation.specs.Laws.{at_start};
+ghost use Rattle.device_relation.specs.Run.{with_table};
 ghost use Rattle.dwc2_device.specs.Driver.{joint, GoesOn};
 ghost use Rattle.dwc2_device.specs.Init.{masks_written, channel_masked, channels_masked, sizes_written};
 

@@ -3,7 +3,7 @@
 //!
 //! [`DevPort`] works over any [`dwc2_access::Regs`]. Its contracts say, of the device that controller and software are
 //! together, what a handler run and each call make of it; the definitions are those of the crate
-//! `device_driver_relation`.
+//! `device_relation`.
 #![tactic(auto)]
 
 mod calls;

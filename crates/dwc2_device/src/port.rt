@@ -2,17 +2,17 @@ ghost use Rattle.std.specs.Prelude.{◌≡◌, ◌+◌, ◌≤◌, [], ◌∷◌
 ghost use Rattle.std.specs.Borrow.{Lends, sem};
 ghost use Rattle.dwc2_access.specs.Registers.{IsRegister};
 ghost use Rattle.dwc2_regs.specs.declared.access.TheConstants.{FS4};
-ghost use Rattle.controller_table.specs.Bank.{bank_read, bank_write};
-ghost use Rattle.controller_table.specs.Read.{read_value, read_table};
-ghost use Rattle.controller_table.specs.Write.{write_table, after_write};
+ghost use Rattle.device_table.specs.Bank.{bank_read, bank_write};
+ghost use Rattle.device_table.specs.Read.{read_value, read_table};
+ghost use Rattle.device_table.specs.Write.{write_table, after_write};
 ghost use Rattle.dwc2_regs.specs.Register.{diepctl, diepint, doepctl, doepint};
-ghost use Rattle.device_driver_relation.specs.Software.{unused};
-ghost use Rattle.device_driver_relation.specs.Run.{with_table};
+ghost use Rattle.device_relation.specs.Software.{unused};
+ghost use Rattle.device_relation.specs.Run.{with_table};
 ghost use Rattle.dwc2_device.specs.Driver.{joint, GoesOn};
 
 use arrayvec::ArrayVec;
-use device_driver_relation::{Heard, Ready};
 use device_machine::Stage;
+use device_relation::{Heard, Ready};
 use dwc2_access::Regs;
 use dwc2_regs::{Profile, diepctl, diepint, doepctl, doepint};
 use std::marker::Model;

@@ -1,16 +1,16 @@
 //! A bus reset, served.
 ghost use Rattle.std.specs.Prelude.{◌≡◌, ◌+◌, ◌*◌, ◌≤◌, [], true};
 ghost use Rattle.dwc2_regs.specs.Register.{dcfg, grstctl, gintsts};
-ghost use Rattle.controller_table.specs.Write.{after_write};
-ghost use Rattle.device_driver_relation.specs.Software.{unused};
-ghost use Rattle.device_driver_relation.specs.Run.{with_table, pipe_closed, pipes_closed, others_closed, interrupts_cleared, all_cleared, popped_all, reset_served, flush_all, reset_bits};
+ghost use Rattle.device_table.specs.Write.{after_write};
+ghost use Rattle.device_relation.specs.Software.{unused};
+ghost use Rattle.device_relation.specs.Run.{with_table, pipe_closed, pipes_closed, others_closed, interrupts_cleared, all_cleared, popped_all, reset_served, flush_all, reset_bits};
 ghost use Rattle.dwc2_device.specs.Driver.{joint, GoesOn, Wakes};
 
 use crate::DevPort;
 use crate::receive::MOST_ENTRIES;
 use crate::words::{ALL_IN_INTERRUPTS, ALL_OUT_INTERRUPTS, FLUSH_ALL, RESET_BITS, SNAK_EPDIS};
 use arrayvec::ArrayVec;
-use device_driver_relation::{Heard, Ready};
+use device_relation::{Heard, Ready};
 use dwc2_access::Regs;
 use dwc2_regs::{DCFG, GINTSTS, GRSTCTL};
 
@@ -95,7 +95,7 @@ impl<R: Regs + Drop> DevPort<R> {
         self.write_out_control(x, SNAK_EPDIS);
     }
 
-    #[tactic(auto, unfolding(device_driver_relation::specs::Run::pipes_closed))]
+    #[tactic(auto, unfolding(device_relation::specs::Run::pipes_closed))]
     fn close_pipes(&mut self)
         requires spare { 8 ≤ self.old.bank.spare }
         requires still { self.old.bank.due ≡ [] }
@@ -135,7 +135,7 @@ impl<R: Regs + Drop> DevPort<R> {
         self.clear_out_interrupts(x, ALL_OUT_INTERRUPTS);
     }
 
-    #[tactic(auto, unfolding(device_driver_relation::specs::Run::all_cleared))]
+    #[tactic(auto, unfolding(device_relation::specs::Run::all_cleared))]
     fn clear_all(&mut self)
         requires spare { 8 ≤ self.old.bank.spare }
         requires still { self.old.bank.due ≡ [] }

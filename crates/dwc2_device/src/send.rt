@@ -2,14 +2,14 @@
 ghost use Rattle.std.specs.Prelude.{◌≡◌, ◌+◌, ◌≤◌, [], length};
 ghost use Rattle.dwc2_regs.specs.Register.{dieptsiz, diepctl, fifo};
 ghost use Rattle.dwc2_fifo.specs.Words.{words_of};
-ghost use Rattle.controller_table.specs.Write.{after_write};
-ghost use Rattle.device_driver_relation.specs.Relation.{one_packet};
-ghost use Rattle.device_driver_relation.specs.Run.{with_table, words_written, packet_loaded, out_armed, packet_ready, waiting_loaded, loaded_from};
+ghost use Rattle.device_table.specs.Write.{after_write};
+ghost use Rattle.device_relation.specs.Relation.{one_packet};
+ghost use Rattle.device_relation.specs.Run.{with_table, words_written, packet_loaded, out_armed, packet_ready, waiting_loaded, loaded_from};
 ghost use Rattle.dwc2_device.specs.Driver.{joint, GoesOn};
 
 use crate::DevPort;
 use crate::words::{CNAK, CNAK_EPENA, SNAK_EPENA, XFRC};
-use device_driver_relation::{Heard, Ready};
+use device_relation::{Heard, Ready};
 use dwc2_access::Regs;
 use dwc2_regs::{DIEPTSIZ0, fifo_window, pack_word};
 use std::mem;

@@ -1,7 +1,7 @@
 -- The registers of which a read changes nothing, and those that stand at 0 where the controller has no such endpoint.
 use Rattle.std.proofs.Common.{◌≡◌, ◌≢◌, ℕ, zero, suc, refl}
-use Rattle.controller_table.specs.State.{Table, in_end_of}
-use Rattle.controller_table.specs.Read.{after_read, diepint_word}
+use Rattle.device_table.specs.State.{Table, in_end_of}
+use Rattle.device_table.specs.Read.{after_read, diepint_word}
 use Rattle.dwc2_state.specs.declared.place.HostRegister.{HostRegister}
 use Rattle.dwc2_state.specs.declared.place.HostRegister.TheVariants as host
 use Rattle.dwc2_state.specs.declared.place.DeviceRegister.{DeviceRegister}

@@ -5,10 +5,10 @@ use Rattle.std.proofs.lemmas.Bool.Decides.{nat_tests}
 use Rattle.usb_packet.specs.declared.bus.Toggle.{Toggle}
 use Rattle.usb_packet.specs.declared.bus.Toggle.TheVariants.{D0, D1}
 use Rattle.dwc2_fifo.specs.Rx.{Entry, Rx, words_in, first_status, pushed, popped, room_of}
-use Rattle.controller_table.specs.State.{Table}
-use Rattle.controller_table.specs.Words.{status_word, pid_of, kind_of}
-use Rattle.controller_table.specs.Read.{entry_popped, end_popped}
-use Rattle.controller_table.specs.Write.{is_setup, setup_in}
+use Rattle.device_table.specs.State.{Table}
+use Rattle.device_table.specs.Words.{status_word, pid_of, kind_of}
+use Rattle.device_table.specs.Read.{entry_popped, end_popped}
+use Rattle.device_table.specs.Write.{is_setup, setup_in}
 use Rattle.dwc2_devmodel.specs.Setups.{setups_in}
 
 lies_step : (b : Bool) (n : ℕ) (rest : Bool) → rest ≡ not (n == 0) → (b || rest) ≡ not ((if b then 1 else 0) + n == 0)

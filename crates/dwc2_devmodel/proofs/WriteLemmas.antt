@@ -1,9 +1,9 @@
 -- A write of a register of one endpoint changes that endpoint alone.
 use Rattle.std.proofs.Common.{◌≡◌, ◌≢◌, ℕ, zero, suc, ◌-◌, ◌≤◌, List, length, get_or, set, refl, sym, ap, ◌∙◌, arith}
 use Rattle.std.proofs.lemmas.List.{set-get_or, get_or_default}
-use Rattle.controller_table.specs.State.{Table, InEnd, in_end, in_end_of, with_in, out_end, with_out, Channel, no_channel}
-use Rattle.controller_table.specs.Write.{after_write, cnak_acts, with_channel}
-use Rattle.controller_table.specs.Read.{channel_at}
+use Rattle.device_table.specs.State.{Table, InEnd, in_end, in_end_of, with_in, out_end, with_out, Channel, no_channel}
+use Rattle.device_table.specs.Write.{after_write, cnak_acts, with_channel}
+use Rattle.device_table.specs.Read.{channel_at}
 use Rattle.dwc2_state.specs.declared.place.InRegister.{InRegister}
 use Rattle.dwc2_state.specs.declared.place.InRegister.TheVariants as in_side
 use Rattle.dwc2_state.specs.declared.place.OutRegister.{OutRegister}

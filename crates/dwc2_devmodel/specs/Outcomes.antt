@@ -1,7 +1,7 @@
 -- The outcomes of packets on the bus, as the code names them.
 use Rattle.std.specs.Prelude.{◌≡◌, ⊤}
 use Rattle.usb_packet.specs.declared.bus.Toggle.{Toggle}
-use Rattle.controller_table.specs.Bus as bus
+use Rattle.device_table.specs.Bus as bus
 use Rattle.dwc2_devmodel.specs.declared.bus.OutOutcome.{OutOutcome}
 use Rattle.dwc2_devmodel.specs.declared.bus.OutOutcome.TheVariants as out_side
 use Rattle.dwc2_devmodel.specs.declared.bus.InOutcome.{InOutcome}

@@ -1,8 +1,8 @@
 -- The entries of SETUPs in the receive FIFO, counted.
 use Rattle.std.specs.Prelude.{◌≡◌, ℕ, ◌+◌, if◌then◌else◌, List, [], ◌∷◌}
 use Rattle.dwc2_fifo.specs.Rx.{Entry, Rx}
-use Rattle.controller_table.specs.State.{rx_depth, out_count}
-use Rattle.controller_table.specs.Write.{is_setup}
+use Rattle.device_table.specs.State.{rx_depth, out_count}
+use Rattle.device_table.specs.Write.{is_setup}
 
 abbrev pub setups_in : List Entry → ℕ
 setups_in [] = 0

@@ -6,10 +6,10 @@ ghost use Rattle.dwc2_fifo.specs.Words.{word_count};
 ghost use Rattle.dwc2_fifo.specs.Rx.{room_of};
 ghost use Rattle.dwc2_devmodel.specs.declared.bus.OutOutcome.TheVariants.{Lands};
 ghost use Rattle.dwc2_devmodel.specs.Outcomes.{out_outcome_of, in_outcome_of, HasToggle};
-ghost use Rattle.controller_table.specs.State.{out_count, out_end, with_out, in_end, with_in};
-ghost use Rattle.controller_table.specs.Words.{status_word};
-ghost use Rattle.controller_table.specs.Write.{emptied};
-ghost use Rattle.controller_table.specs.Bus.{hears, hears_setup, hears_out, has_room, is_repeated, after_reset, after_setup, setup_entries, out_entries, out_landed, landed_on_0, after_landing, bus_answer, after_bus, in_acked, out_outcome, in_outcome};
+ghost use Rattle.device_table.specs.State.{out_count, out_end, with_out, in_end, with_in};
+ghost use Rattle.device_table.specs.Words.{status_word};
+ghost use Rattle.device_table.specs.Write.{emptied};
+ghost use Rattle.device_table.specs.Bus.{hears, hears_setup, hears_out, has_room, is_repeated, after_reset, after_setup, setup_entries, out_entries, out_landed, landed_on_0, after_landing, bus_answer, after_bus, in_acked, out_outcome, in_outcome};
 
 use crate::controller::Controller;
 use dwc2_regs::{DCFG_ADDRESS, get_field};

@@ -1,7 +1,7 @@
 ghost use Rattle.std.specs.Prelude.{◌≡◌, ◌≢◌, ℕ, ◌≤◌, ◌<◌, IsSome, IfSome, IfNone};
-ghost use Rattle.controller_table.specs.State.{first, in_count, out_count, in_end, in_end_of, out_end, no_out_end};
-ghost use Rattle.controller_table.specs.Write.{setup_lies, cnak_acts};
-ghost use Rattle.controller_table.specs.Bus.{setup_waits};
+ghost use Rattle.device_table.specs.State.{first, in_count, out_count, in_end, in_end_of, out_end, no_out_end};
+ghost use Rattle.device_table.specs.Write.{setup_lies, cnak_acts};
+ghost use Rattle.device_table.specs.Bus.{setup_waits};
 
 use dwc2_fifo::RxFifo;
 use dwc2_state::{CoreState, HostRegisters, InEndpoint, KeptRegisters, OutEndpoint};
@@ -32,7 +32,7 @@ pub struct Controller {
 
 impl Model for Controller {
     ghost use Rattle.std.specs.Prelude.{◌≡◌, length};
-    ghost use Rattle.controller_table.specs.State.{Table, in_count, out_count};
+    ghost use Rattle.device_table.specs.State.{Table, in_count, out_count};
     ghost use Rattle.dwc2_devmodel.specs.Setups.{IsCounted};
 
     ghost Value = { Table };

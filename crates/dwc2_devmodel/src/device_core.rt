@@ -1,8 +1,8 @@
 ghost use Rattle.std.specs.Prelude.{◌≡◌, ◌-◌, ◌≤◌, [], ◌∷◌, ◌++◌};
 ghost use Rattle.dwc2_regs.specs.declared.access.TheConstants.{FS4};
-ghost use Rattle.controller_table.specs.State.{first};
-ghost use Rattle.controller_table.specs.Bank.{most_accesses, counted};
-ghost use Rattle.controller_table.specs.Bus.{bus_answer, after_bus};
+ghost use Rattle.device_table.specs.State.{first};
+ghost use Rattle.device_table.specs.Bank.{most_accesses, counted};
+ghost use Rattle.device_table.specs.Bus.{bus_answer, after_bus};
 
 use crate::controller::Controller;
 use arrayvec::ArrayVec;
@@ -25,7 +25,7 @@ pub struct DevCore {
 
 impl Model for DevCore {
     ghost use Rattle.std.specs.Prelude.{◌+◌, ◌≤◌, [], length};
-    ghost use Rattle.controller_table.specs.Bank.{Bank, most_accesses, last_made};
+    ghost use Rattle.device_table.specs.Bank.{Bank, most_accesses, last_made};
 
     ghost Value = { Bank };
 

@@ -1,7 +1,7 @@
 //! The DWC2 USB controller in device mode (after RM0090, OTG_FS): its registers and FIFOs, and what it does on the bus.
 //!
 //! [`DevCore`] is a controller with three endpoints in each direction beside endpoint 0. Each register access and each
-//! bus event is a step of the definitions in the crate `controller_table`. No call takes memory, and no work grows with
+//! bus event is a step of the definitions in the crate `device_table`. No call takes memory, and no work grows with
 //! what was done before: FIFOs are as deep as the plan says.
 #![tactic(auto)]
 

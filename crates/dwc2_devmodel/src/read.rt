@@ -2,9 +2,9 @@
 ghost use Rattle.std.specs.Prelude.{◌≡◌, ℕ, ◌+◌, ◌^◌, ◌<◌, ◌≤◌, ◌∷◌, true, length};
 ghost use Rattle.dwc2_regs.specs.Register.{fifo, dieptxf};
 ghost use Rattle.dwc2_fifo.specs.Rx.{first_status};
-ghost use Rattle.controller_table.specs.Words.{kind_of, number_of};
-ghost use Rattle.controller_table.specs.Read.{in_interrupts, out_interrupts, in_bits, out_bits, number_of_bits, any_under, iepint, oepint, daint_word, gintsts_word, rxflvl, value_read, after_read, entry_popped, end_popped, read_value, read_table};
-ghost use Rattle.controller_table.specs.State.{out_end, with_out};
+ghost use Rattle.device_table.specs.Words.{kind_of, number_of};
+ghost use Rattle.device_table.specs.Read.{in_interrupts, out_interrupts, in_bits, out_bits, number_of_bits, any_under, iepint, oepint, daint_word, gintsts_word, rxflvl, value_read, after_read, entry_popped, end_popped, read_value, read_table};
+ghost use Rattle.device_table.specs.State.{out_end, with_out};
 ghost use Rattle.dwc2_state.specs.Place.{register_of, of_core, of_host, of_device, of_channel, of_in, of_out};
 
 use crate::controller::Controller;

@@ -1,8 +1,8 @@
 // What a write of each register changes.
 ghost use Rattle.std.specs.Prelude.{◌≡◌, ◌≤◌, true, map, slice_set};
 ghost use Rattle.dwc2_regs.specs.Register.{fifo, dieptxf};
-ghost use Rattle.controller_table.specs.State.{in_end, with_in, out_end, with_out};
-ghost use Rattle.controller_table.specs.Write.{cnak_acts, emptied, rx_flushed, tx_flushed, grstctl_written, after_write, write_table};
+ghost use Rattle.device_table.specs.State.{in_end, with_in, out_end, with_out};
+ghost use Rattle.device_table.specs.Write.{cnak_acts, emptied, rx_flushed, tx_flushed, grstctl_written, after_write, write_table};
 ghost use Rattle.dwc2_state.specs.Place.{register_of, of_core, of_host, of_device, of_channel, of_in, of_out};
 ghost use Rattle.dwc2_state.specs.Ends.{in_written, out_written};
 

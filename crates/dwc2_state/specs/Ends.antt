@@ -1,7 +1,7 @@
 -- What a write of a register of one channel or endpoint changes in it.
 use Rattle.std.specs.Prelude.{ℕ, Bool}
-use Rattle.controller_table.specs.State.{Channel, InEnd, OutEnd}
-use Rattle.controller_table.specs.Write.{hcchar_written, in_control_written, in_interrupts_written, in_tsiz_written, out_control_written, out_interrupts_written}
+use Rattle.device_table.specs.State.{Channel, InEnd, OutEnd}
+use Rattle.device_table.specs.Write.{hcchar_written, in_control_written, in_interrupts_written, in_tsiz_written, out_control_written, out_interrupts_written}
 use Rattle.dwc2_state.specs.declared.place.ChannelRegister.{ChannelRegister}
 use Rattle.dwc2_state.specs.declared.place.ChannelRegister.TheVariants as channel
 use Rattle.dwc2_state.specs.declared.place.InRegister.{InRegister}

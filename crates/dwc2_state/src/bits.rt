@@ -1,7 +1,7 @@
 // Single bits of words, and the parts of a status word.
 ghost use Rattle.std.specs.Prelude.{◌≡◌, ℕ, ◌+◌, ◌≤◌};
-ghost use Rattle.controller_table.specs.Words.{flag, with_flag, flipped, same_toggle, pid_of};
-ghost use Rattle.controller_table.specs.Read.{bit_at};
+ghost use Rattle.device_table.specs.Words.{flag, with_flag, flipped, same_toggle, pid_of};
+ghost use Rattle.device_table.specs.Read.{bit_at};
 
 use dwc2_regs::{Field, get_field, put_field};
 use usb_packet::Toggle;

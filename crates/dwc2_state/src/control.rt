@@ -1,8 +1,8 @@
 ghost use Rattle.std.specs.Prelude.{◌≡◌, ℕ, zero, suc, ◌+◌, ◌≤◌, ◌||◌, not, Bool, true, false};
-ghost use Rattle.controller_table.specs.State.{Control, no_control};
-ghost use Rattle.controller_table.specs.Words.{kept_bits, control_word, packet_size, size_counted, size_of_code};
-ghost use Rattle.controller_table.specs.Write.{control_written};
-ghost use Rattle.controller_table.specs.Bus.{is_open, at_rest, control_at_setup};
+ghost use Rattle.device_table.specs.State.{Control, no_control};
+ghost use Rattle.device_table.specs.Words.{kept_bits, control_word, packet_size, size_counted, size_of_code};
+ghost use Rattle.device_table.specs.Write.{control_written};
+ghost use Rattle.device_table.specs.Bus.{is_open, at_rest, control_at_setup};
 
 use crate::bits::{flag, with_flag};
 use dwc2_regs::{
@@ -21,7 +21,7 @@ pub struct ControlRegister {
 }
 
 impl Model for ControlRegister {
-    ghost use Rattle.controller_table.specs.State.{Control};
+    ghost use Rattle.device_table.specs.State.{Control};
 
     ghost Value = { Control };
 

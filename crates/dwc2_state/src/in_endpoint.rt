@@ -1,11 +1,11 @@
 ghost use Rattle.std.specs.Prelude.{◌≡◌, ℕ, ◌+◌, ◌-◌, ◌/◌, ◌==◌, ◌≤◌, ◌<◌, Bool, false, None};
 ghost use Rattle.usb_packet.specs.declared.bus.Toggle.TheVariants.{D1};
 ghost use Rattle.dwc2_fifo.specs.Tx.{space_of};
-ghost use Rattle.controller_table.specs.State.{in_end_of};
-ghost use Rattle.controller_table.specs.Words.{transfer_size, packet_count, with_packet_count};
-ghost use Rattle.controller_table.specs.Read.{txfe, diepint_word};
-ghost use Rattle.controller_table.specs.Write.{emptied, in_control_written, in_interrupts_written, in_tsiz_written, next_length, packet_begun, word_written};
-ghost use Rattle.controller_table.specs.Bus.{control_at_setup, is_empty_packet, packet_ready, fifo_acked, counted_down, in_acked};
+ghost use Rattle.device_table.specs.State.{in_end_of};
+ghost use Rattle.device_table.specs.Words.{transfer_size, packet_count, with_packet_count};
+ghost use Rattle.device_table.specs.Read.{txfe, diepint_word};
+ghost use Rattle.device_table.specs.Write.{emptied, in_control_written, in_interrupts_written, in_tsiz_written, next_length, packet_begun, word_written};
+ghost use Rattle.device_table.specs.Bus.{control_at_setup, is_empty_packet, packet_ready, fifo_acked, counted_down, in_acked};
 ghost use Rattle.dwc2_state.specs.Ends.{in_written};
 
 use crate::bits::{flag, flipped, with_flag};
@@ -32,7 +32,7 @@ pub struct InEndpoint {
 }
 
 impl Model for InEndpoint {
-    ghost use Rattle.controller_table.specs.State.{InEnd};
+    ghost use Rattle.device_table.specs.State.{InEnd};
 
     ghost Value = { InEnd };
 

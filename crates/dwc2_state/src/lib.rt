@@ -1,7 +1,7 @@
 //! The parts of the DWC2 USB controller in device mode (after RM0090, OTG_FS): one endpoint in each direction, the
 //! registers that keep what was written, which register stands at an offset, and single bits of words.
 //!
-//! Each part is seen as the controller's definitions in the crate `controller_table` have it, and each call as what they
+//! Each part is seen as the controller's definitions in the crate `device_table` have it, and each call as what they
 //! say of that part. The crate `dwc2_devmodel` puts the parts together.
 #![tactic(auto)]
 

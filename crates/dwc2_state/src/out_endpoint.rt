@@ -1,9 +1,9 @@
 ghost use Rattle.std.specs.Prelude.{◌≡◌, true};
 ghost use Rattle.usb_packet.specs.declared.bus.Toggle.TheVariants.{D1};
-ghost use Rattle.controller_table.specs.State.{no_out_end};
-ghost use Rattle.controller_table.specs.Read.{doepint_word};
-ghost use Rattle.controller_table.specs.Write.{out_control_written};
-ghost use Rattle.controller_table.specs.Bus.{control_at_setup, out_landed};
+ghost use Rattle.device_table.specs.State.{no_out_end};
+ghost use Rattle.device_table.specs.Read.{doepint_word};
+ghost use Rattle.device_table.specs.Write.{out_control_written};
+ghost use Rattle.device_table.specs.Bus.{control_at_setup, out_landed};
 ghost use Rattle.dwc2_state.specs.Ends.{out_written};
 
 use crate::bits::{flag, flipped, with_flag};
@@ -25,7 +25,7 @@ pub struct OutEndpoint {
 }
 
 impl Model for OutEndpoint {
-    ghost use Rattle.controller_table.specs.State.{OutEnd};
+    ghost use Rattle.device_table.specs.State.{OutEnd};
 
     ghost Value = { OutEnd };
 

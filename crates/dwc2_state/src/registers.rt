@@ -1,8 +1,8 @@
 // Registers that keep what was written, and what the bus has done to the device as a whole.
 ghost use Rattle.std.specs.Prelude.{◌≡◌, ◌≤◌, false, None, replicate};
-ghost use Rattle.controller_table.specs.State.{no_channel, first};
+ghost use Rattle.device_table.specs.State.{no_channel, first};
 ghost use Rattle.dwc2_state.specs.Ends.{channel_written};
-ghost use Rattle.controller_table.specs.Write.{gintsts_written, hprt_written, hcchar_written};
+ghost use Rattle.device_table.specs.Write.{gintsts_written, hprt_written, hcchar_written};
 
 use crate::bits::{flag, with_flag};
 use crate::place::ChannelRegister;
@@ -27,7 +27,7 @@ pub struct CoreState {
 }
 
 impl Model for CoreState {
-    ghost use Rattle.controller_table.specs.State.{Core};
+    ghost use Rattle.device_table.specs.State.{Core};
 
     ghost Value = { Core };
 
@@ -76,7 +76,7 @@ pub struct KeptRegisters {
 
 impl Model for KeptRegisters {
     ghost use Rattle.std.specs.Prelude.{◌≡◌, length};
-    ghost use Rattle.controller_table.specs.State.{Kept, in_count};
+    ghost use Rattle.device_table.specs.State.{Kept, in_count};
 
     ghost Value = { Kept };
 
@@ -114,7 +114,7 @@ pub struct ChannelRegisters {
 }
 
 impl Model for ChannelRegisters {
-    ghost use Rattle.controller_table.specs.State.{Channel};
+    ghost use Rattle.device_table.specs.State.{Channel};
 
     ghost Value = { Channel };
 
@@ -167,7 +167,7 @@ pub struct HostRegisters {
 
 impl Model for HostRegisters {
     ghost use Rattle.std.specs.Prelude.{◌≡◌, length};
-    ghost use Rattle.controller_table.specs.State.{Host, channel_count};
+    ghost use Rattle.device_table.specs.State.{Host, channel_count};
 
     ghost Value = { Host };
 

@@ -1,6 +1,6 @@
 ghost use Rattle.std.specs.Prelude.{◌≡◌, ◌+◌, ◌*◌, ◌≤◌, true};
 ghost use Rattle.dwc2_regs.specs.declared.access.TheConstants.{FS4};
-ghost use Rattle.controller_table.specs.State.{rx_depth, tx0_depth, tx_depth};
+ghost use Rattle.device_table.specs.State.{rx_depth, tx0_depth, tx_depth};
 ghost use Rattle.usb_descriptor.specs.Set.{IsAccepted, endpoints_of};
 ghost use Rattle.usb_compose.specs.Plan.{most_words};
 

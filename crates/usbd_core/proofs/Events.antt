@@ -11,9 +11,9 @@ use Rattle.device_machine.specs.declared.control.Side.{Side}
 use Rattle.device_machine.specs.declared.control.Side.TheVariants.{Off, Wait, Loaded, Last, Armed, Stall, Finished}
 use Rattle.device_machine.specs.Bus.{Bus, bus_after, after_setup, after_out, after_in, disturbed, takes, hears_setup, hears_out, hears_in, serves}
 use Rattle.device_machine.specs.Core.{Transfer, Idle, Sending, Ending, Addressing}
-use Rattle.device_driver_relation.specs.Port.{Port}
-use Rattle.device_driver_relation.specs.Laws as relation
-use Rattle.device_driver_relation.proofs.Events as relation_events
+use Rattle.device_relation.specs.Port.{Port}
+use Rattle.device_relation.specs.Laws as relation
+use Rattle.device_relation.proofs.Events as relation_events
 use Rattle.dwc2_device.specs.Driver.{joint}
 use Rattle.usbd_core.specs.Device.{KeepsAddress, is_for_host, GivesStatus, Fits, Rests, address_of, bus_of, core_of, port_in}
 use Rattle.usbd_core.specs.Laws.{BusKeeps}

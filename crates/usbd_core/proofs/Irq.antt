@@ -11,11 +11,11 @@ use Rattle.device_machine.specs.declared.control.Side.TheVariants.{Off, Wait, Lo
 use Rattle.device_machine.specs.Bus.{Bus, finished_stage, loaded, last_of}
 use Rattle.device_machine.specs.Core as core
 use Rattle.device_machine.specs.Core.{Core, Transfer, Idle, Sending, Ending, Addressing, after_irq}
-use Rattle.controller_table.specs.State.{Table}
-use Rattle.device_driver_relation.specs.Software.{Software}
-use Rattle.device_driver_relation.specs.Relation.{Stands, IsSound, is_idle, abstract}
-use Rattle.device_driver_relation.specs.Port as port
-use Rattle.device_driver_relation.specs.Port.{Port, port_of, after_handler}
+use Rattle.device_table.specs.State.{Table}
+use Rattle.device_relation.specs.Software.{Software}
+use Rattle.device_relation.specs.Relation.{Stands, IsSound, is_idle, abstract}
+use Rattle.device_relation.specs.Port as port
+use Rattle.device_relation.specs.Port.{Port, port_of, after_handler}
 use Rattle.dwc2_device.specs.Driver.{Driver, joint}
 use Rattle.usbd_core.specs.Device.{Device, KeepsAddress, is_for_host, GivesStatus, Fits, Rests, Agrees, IsQuiet, address_of, core_of, port_in}
 use Rattle.usbd_core.specs.Hears.{state_sent, with_driver, after_note}

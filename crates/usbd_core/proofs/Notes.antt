@@ -12,8 +12,8 @@ use Rattle.usb_control.specs.Table.{choice}
 use Rattle.device_machine.specs.declared.control.Stage.{Stage}
 use Rattle.device_machine.specs.Packets.{data_packets}
 use Rattle.device_machine.specs.Core.{Core, state_of, sending, with_data, staged, changed, begun, work_request, with_request_worked}
-use Rattle.device_driver_relation.specs.Port.{Port}
-use Rattle.device_driver_relation.specs.Relation.{IsSound}
+use Rattle.device_relation.specs.Port.{Port}
+use Rattle.device_relation.specs.Relation.{IsSound}
 use Rattle.dwc2_device.specs.Driver.{joint}
 use Rattle.usbd_core.specs.Device.{Device, core_of, port_in, Fits, Rests, Agrees}
 

@@ -6,7 +6,7 @@ use Rattle.std.proofs.lemmas.List.Folds.{list_any_none}
 use Rattle.std.proofs.lemmas.Map.Keys.{apart_from_distinct}
 use Rattle.usb_descriptor.specs.declared.endpoint.Endpoint.{Endpoint}
 use Rattle.usb_descriptor.specs.Served.{AreServed}
-use Rattle.device_driver_relation.specs.Port.{has_address}
+use Rattle.device_relation.specs.Port.{has_address}
 use Rattle.usbd_core.specs.Device.{tops}
 
 apart : (es : List Endpoint) (i k : ℕ) (d other : Endpoint) → AreServed tops es → k < i → i < length es → ((get_or es k other).addr == (get_or es i d).addr) ≡ false

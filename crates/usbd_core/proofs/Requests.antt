@@ -16,7 +16,7 @@ use Rattle.usb_control.specs.declared.state.Choice.TheVariants.{Own, Class}
 use Rattle.usb_control.specs.Table.{Row, rows, is_row_of, chosen, choice, only, status, given, handed, class_descriptor, is_zero, has_interface, has_endpoint, descriptor_of, owner_of, configuration_value, named}
 use Rattle.usb_packet.specs.Setup.{fields_of}
 use Rattle.device_machine.specs.Core.{Core, ending, state_of, begun, work_request, with_request_worked}
-use Rattle.device_driver_relation.specs.Relation.{IsAddress}
+use Rattle.device_relation.specs.Relation.{IsAddress}
 use Rattle.usbd_core.specs.Device.{address_of}
 
 abbrev IsNear : Choice → Type 0

@@ -13,8 +13,8 @@ use Rattle.device_machine.specs.declared.control.Side.TheVariants.{Off, Wait, Lo
 use Rattle.device_machine.specs.Bus.{Bus}
 use Rattle.device_machine.specs.Session.{opened}
 use Rattle.device_machine.specs.Core.{Core, Transfer, Idle, Sending, Ending, Addressing}
-use Rattle.device_driver_relation.specs.Relation.{IsSound, abstract}
-use Rattle.device_driver_relation.specs.Port.{Port, port_of}
+use Rattle.device_relation.specs.Relation.{IsSound, abstract}
+use Rattle.device_relation.specs.Port.{Port, port_of}
 use Rattle.dwc2_device.specs.Driver.{Driver, joint}
 use Rattle.usbd_core.specs.declared.transfer.Transfer as declared
 use Rattle.usbd_core.specs.declared.transfer.Transfer.TheVariants as transfer

@@ -3,8 +3,8 @@ use Rattle.std.specs.Prelude.{◌≡◌}
 use Rattle.usb_packet.specs.declared.bus.BusEvent.{BusEvent}
 use Rattle.device_machine.specs.Bus as bus
 use Rattle.device_machine.specs.Core.{after_bus}
-use Rattle.controller_table.specs.Bus as table
-use Rattle.device_driver_relation.specs.Laws.{IsEvent}
+use Rattle.device_table.specs.Bus as table
+use Rattle.device_relation.specs.Laws.{IsEvent}
 use Rattle.usbd_core.specs.Device.{Device, core_of, Agrees}
 
 -- the controller moves, and all else stays

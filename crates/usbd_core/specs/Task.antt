@@ -1,7 +1,7 @@
 -- What a task needs of endpoint 0 before it gives it a stage, and the endpoints that it opens.
 use Rattle.std.specs.Prelude.{◌≡◌, ℕ, true, IsTrue, List, Option, Some, None}
 use Rattle.usb_descriptor.specs.declared.endpoint.Endpoint.{Endpoint}
-use Rattle.device_driver_relation.specs.Port.{Port, may_start}
+use Rattle.device_relation.specs.Port.{Port, may_start}
 use Rattle.usbd_core.specs.Device.{KeepsAddress}
 
 -- A SETUP came since the last reset, and nothing is on its way on endpoint 0. What waits there brings no address.

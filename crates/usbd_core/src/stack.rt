@@ -2,7 +2,7 @@ ghost use Rattle.std.specs.Prelude.{◌≡◌, ◌+◌, ◌≤◌, [], IfOk};
 ghost use Rattle.std.specs.Borrow.{Lends, sem};
 ghost use Rattle.usb_descriptor.specs.Set.{IsAccepted};
 ghost use Rattle.dwc2_regs.specs.declared.access.TheConstants.{FS4};
-ghost use Rattle.controller_table.specs.State.{first, opened};
+ghost use Rattle.device_table.specs.State.{first, opened};
 ghost use Rattle.device_machine.specs.Core.{start, state_of, after_irq};
 ghost use Rattle.dwc2_device.specs.Driver.{GoesOn};
 ghost use Rattle.usbd_core.specs.Device.{tops, core_of, Agrees};

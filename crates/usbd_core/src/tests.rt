@@ -7,7 +7,7 @@ ghost use Rattle.usbd_core.specs.Device.{tops, Agrees};
 use crate::DevStack;
 use crate::laws::bus_keeps;
 use arrayvec::ArrayVec;
-use device_driver_relation::laws::event_fits;
+use device_relation::laws::event_fits;
 use dwc2_access::Regs;
 use dwc2_devmodel::DevCore;
 use dwc2_regs::FS4;

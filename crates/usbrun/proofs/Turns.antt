@@ -11,7 +11,7 @@ use Rattle.usb_text.specs.declared.line.Answer.{Answer}
 use Rattle.usb_text.specs.declared.line.Line.TheVariants.{End}
 use Rattle.usb_text.specs.Line.{newline, line_text, schedule_text_of, IsDeviceLine}
 use Rattle.usb_text.specs.Plain.{is_plain}
-use Rattle.controller_table.specs.State.{Table, opened}
+use Rattle.device_table.specs.State.{Table, opened}
 use Rattle.usb_descriptor.specs.Set.{Set}
 use Rattle.device_machine.specs.Core.{Core, start}
 use Rattle.device_schedule.specs.Schedule.{core_answer, core_after}

@@ -1,5 +1,5 @@
 ghost use Rattle.std.specs.Prelude.{◌≡◌, ◌+◌, ◌≤◌, ◌<◌, Some, false, IfNone, IsTrue, true, ◌⊎◌};
-ghost use Rattle.controller_table.specs.State.{opened};
+ghost use Rattle.device_table.specs.State.{opened};
 ghost use Rattle.usb_edge.specs.Stream.{Rose, IsAtEnd};
 ghost use Rattle.device_machine.specs.Core.{start};
 ghost use Rattle.usb_text.specs.Scheduled.{device_line};

@@ -1,7 +1,7 @@
 -- one more end is flushed
 use Rattle.std.proofs.Common.{ap, ◌∙◌, List, set, get_or}
-use Rattle.controller_table.specs.State.{InEnd}
-use Rattle.controller_table.specs.Write.{emptied}
+use Rattle.device_table.specs.State.{InEnd}
+use Rattle.device_table.specs.Write.{emptied}
 use Rattle.dwc2_devmodel.proofs.ListLemmas.{map_one_more}
 use Rattle.dwc2_devmodel.proofs.write.flush_each.Goals as goal
 

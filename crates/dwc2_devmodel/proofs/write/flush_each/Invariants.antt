@@ -1,5 +1,5 @@
 use Rattle.std.proofs.Common.{◌≡◌, ◌++◌, map, take, drop}
-use Rattle.controller_table.specs.Write.{emptied}
+use Rattle.device_table.specs.Write.{emptied}
 use Rattle.dwc2_devmodel.proofs.write.flush_each.Given as goal
 
 -- the first ends are flushed, and the others are as they were

@@ -4,7 +4,7 @@ use Rattle.std.specs.Prelude.{slice_index_or}
 use Rattle.usb_descriptor.specs.declared.endpoint.Endpoint.{Endpoint}
 use Rattle.usb_descriptor.specs.declared.endpoint.EpKind.TheVariants.{Bulk}
 use Rattle.usb_packet.specs.declared.bus.Owner.TheVariants.{Core}
-use Rattle.device_driver_relation.specs.Port.{Port, has_address}
+use Rattle.device_relation.specs.Port.{Port, has_address}
 use Rattle.usbd_core.proofs.Opens.{shut}
 use Rattle.usbd_core.proofs.task.open_all.Goals as goal
 

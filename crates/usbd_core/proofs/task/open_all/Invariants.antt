@@ -1,7 +1,7 @@
 -- The first of the endpoints are open.
 use Rattle.std.proofs.Common.{◌≡◌, ◌+◌, ◌≤◌, [], take}
-use Rattle.device_driver_relation.specs.Relation.{IsSound}
-use Rattle.device_driver_relation.specs.Port.{port_of}
+use Rattle.device_relation.specs.Relation.{IsSound}
+use Rattle.device_relation.specs.Port.{port_of}
 use Rattle.dwc2_device.specs.Driver.{joint, GoesOn}
 use Rattle.usbd_core.specs.Task.{with_endpoints}
 use Rattle.usbd_core.proofs.task.open_all.Given as goal

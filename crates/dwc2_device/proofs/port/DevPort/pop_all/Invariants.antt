@@ -1,6 +1,6 @@
 -- What was popped, and what is still to be popped, are all.
 use Rattle.std.proofs.Common.{◌≡◌, ◌+◌, ◌-◌, ◌≤◌, []}
-use Rattle.device_driver_relation.specs.Run.{popped_all}
+use Rattle.device_relation.specs.Run.{popped_all}
 use Rattle.dwc2_device.specs.Driver.{GoesOn}
 use Rattle.dwc2_device.proofs.port.DevPort.pop_all.Given as goal
 

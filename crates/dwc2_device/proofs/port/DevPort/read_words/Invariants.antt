@@ -1,7 +1,7 @@
 -- What was read, and what is still to be read, are all.
 use Rattle.std.proofs.Common.{◌≡◌, ◌+◌, ◌-◌, ◌*◌, ◌≤◌, [], ◌++◌, length}
 use Rattle.dwc2_fifo.specs.Words.{bytes_in}
-use Rattle.device_driver_relation.specs.Run.{after_words, words_read}
+use Rattle.device_relation.specs.Run.{after_words, words_read}
 use Rattle.dwc2_device.specs.Driver.{GoesOn}
 use Rattle.dwc2_device.proofs.port.DevPort.read_words.Given as goal
 

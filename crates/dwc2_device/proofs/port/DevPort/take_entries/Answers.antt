@@ -1,9 +1,9 @@
 -- One entry was taken.
 use Rattle.std.proofs.Common.{◌≡◌, ◌≢◌, ℕ, ◌+◌, ◌-◌, ap, sym, ◌∙◌, arith}
 use Rattle.dwc2_regs.specs.Register.{grxstsp}
-use Rattle.controller_table.specs.Read.{value_read, after_read}
-use Rattle.device_driver_relation.specs.Software.{Joint}
-use Rattle.device_driver_relation.specs.Run.{with_table, entry_taken, entries_taken}
+use Rattle.device_table.specs.Read.{value_read, after_read}
+use Rattle.device_relation.specs.Software.{Joint}
+use Rattle.device_relation.specs.Run.{with_table, entry_taken, entries_taken}
 use Rattle.dwc2_device.specs.Driver.{joint}
 use Rattle.dwc2_device.proofs.Loops.{taken_some}
 use Rattle.dwc2_device.proofs.port.DevPort.take_entries.Goals as goal

@@ -1,6 +1,6 @@
 -- What was taken, and what is still to be taken, are all.
 use Rattle.std.proofs.Common.{◌≡◌, ◌+◌, ◌-◌, ◌*◌, ◌≤◌, []}
-use Rattle.device_driver_relation.specs.Run.{entries_taken}
+use Rattle.device_relation.specs.Run.{entries_taken}
 use Rattle.dwc2_device.specs.Driver.{joint, GoesOn}
 use Rattle.dwc2_device.proofs.port.DevPort.take_entries.Given as goal
 

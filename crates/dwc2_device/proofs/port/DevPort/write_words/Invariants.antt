@@ -1,7 +1,7 @@
 -- What is still to be written makes what all makes.
 use Rattle.std.proofs.Common.{◌≡◌, ◌+◌, ◌≤◌, [], length}
 use Rattle.dwc2_fifo.specs.Words.{words_of, word_count}
-use Rattle.device_driver_relation.specs.Run.{words_written}
+use Rattle.device_relation.specs.Run.{words_written}
 use Rattle.dwc2_device.specs.Driver.{GoesOn}
 use Rattle.dwc2_device.proofs.port.DevPort.write_words.Given as goal
 

@@ -1,7 +1,7 @@
 -- the packet of the endpoint of that number leaves
 use Rattle.std.proofs.Common.{rules, ap, ◌∙◌, ◌≢◌, ◌-◌, sym, set, arith}
-use Rattle.controller_table.specs.State.{Table, InEnd, with_in, in_end}
-use Rattle.controller_table.specs.Bus.{in_acked}
+use Rattle.device_table.specs.State.{Table, InEnd, with_in, in_end}
+use Rattle.device_table.specs.Bus.{in_acked}
 use Rattle.dwc2_devmodel.specs.contracts.controller.Controller.{the_view}
 use Rattle.dwc2_devmodel.proofs.WriteLemmas.{with_in_at}
 use Rattle.dwc2_devmodel.proofs.controller.Controller.acknowledge.Goals as goal

@@ -3,7 +3,7 @@ use Rattle.std.proofs.Common.{ℕ, [], length, ap, ◌∙◌, arith}
 use Rattle.dwc2_fifo.specs.Rx.{Entry, Rx, room_of, pushed}
 use Rattle.dwc2_fifo.specs.Words.{words_of}
 use Rattle.dwc2_fifo.proofs.WordsLemmas.{length-words_of}
-use Rattle.controller_table.specs.State.{Table}
+use Rattle.device_table.specs.State.{Table}
 use Rattle.dwc2_devmodel.specs.Setups.{setups_in}
 use Rattle.dwc2_devmodel.proofs.SetupLemmas.{setups_in-le, setups_in-two, setups_in-setup, room_of-pushed}
 use Rattle.dwc2_devmodel.proofs.controller.Controller.push_setup.Goals as goal

@@ -1,7 +1,7 @@
 -- the count is 0 exactly where no entry of a SETUP lies there
 use Rattle.std.proofs.Common.{ℕ, Bool, ap, ◌∙◌, sym}
 use Rattle.std.specs.Prelude.{not, ◌==◌}
-use Rattle.controller_table.specs.Write.{setup_lies}
+use Rattle.device_table.specs.Write.{setup_lies}
 use Rattle.dwc2_devmodel.proofs.SetupLemmas.{setup_in_counted}
 use Rattle.dwc2_devmodel.proofs.controller.Controller.setup_lies.Goals as goal
 

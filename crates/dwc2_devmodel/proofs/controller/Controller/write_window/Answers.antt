@@ -1,7 +1,7 @@
 -- the word is written to the endpoint of that number
 use Rattle.std.proofs.Common.{rules, ap, ◌∙◌, ◌≢◌, ◌-◌, sym, set, arith}
-use Rattle.controller_table.specs.State.{Table, InEnd, with_in, in_end}
-use Rattle.controller_table.specs.Write.{word_written}
+use Rattle.device_table.specs.State.{Table, InEnd, with_in, in_end}
+use Rattle.device_table.specs.Write.{word_written}
 use Rattle.dwc2_devmodel.specs.contracts.controller.Controller.{the_view}
 use Rattle.dwc2_devmodel.proofs.WriteLemmas.{with_in_at}
 use Rattle.dwc2_devmodel.proofs.controller.Controller.write_window.Goals as goal

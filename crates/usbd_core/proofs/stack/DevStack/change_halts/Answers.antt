@@ -2,7 +2,7 @@
 use Rattle.std.proofs.Common.{ℕ, List, ap, ◌∙◌}
 use Rattle.device_machine.specs.Session.{halted_after}
 use Rattle.device_machine.specs.Core.{Core, with_halts}
-use Rattle.device_driver_relation.specs.Relation.{abstract}
+use Rattle.device_relation.specs.Relation.{abstract}
 use Rattle.dwc2_device.specs.Driver.{joint}
 use Rattle.usbd_core.specs.Device.{Device, transfer_of, core_of}
 use Rattle.usbd_core.proofs.stack.DevStack.change_halts.Goals as goal

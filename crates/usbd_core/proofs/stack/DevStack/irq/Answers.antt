@@ -1,7 +1,7 @@
 -- A handler run.
 use Rattle.std.proofs.Common.{◌≡◌, ap, ◌∙◌}
-use Rattle.device_driver_relation.specs.Relation.{IsSound}
-use Rattle.device_driver_relation.specs.Port.{port_of, after_handler}
+use Rattle.device_relation.specs.Relation.{IsSound}
+use Rattle.device_relation.specs.Port.{port_of, after_handler}
 use Rattle.dwc2_device.specs.Driver.{Driver, joint}
 use Rattle.usbd_core.specs.Device.{Device, Agrees, port_in}
 use Rattle.usbd_core.specs.Hears.{with_driver, after_note}

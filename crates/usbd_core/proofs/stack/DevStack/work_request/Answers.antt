@@ -1,7 +1,7 @@
 -- The SETUP that was noted is worked.
 use Rattle.std.proofs.Common.{ℕ, List, Option, ap, sym, ◌∙◌}
 use Rattle.device_machine.specs.Core.{Core, with_request_worked}
-use Rattle.device_driver_relation.specs.Relation.{abstract}
+use Rattle.device_relation.specs.Relation.{abstract}
 use Rattle.dwc2_device.specs.Driver.{joint}
 use Rattle.usbd_core.specs.Device.{Device, transfer_of, core_of}
 use Rattle.usbd_core.proofs.Notes.{worked_agrees}

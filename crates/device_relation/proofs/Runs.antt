@@ -1,0 +1,31 @@
+-- A handler run is the device's.
+use Rattle.std.proofs.Common.{◌≡◌, Bool, true, false, refl, ap, sym, ◌∙◌, subst}
+use Rattle.std.specs.Prelude.{if◌then◌else◌}
+use Rattle.device_machine.specs.Bus.{finished_stage}
+use Rattle.device_relation.specs.Software.{Joint, unused}
+use Rattle.device_relation.specs.Port.{Port, StandsFor, port_of, port_reset, with_stages, after_handler}
+use Rattle.device_relation.specs.Run.{run, reset_served, served_by}
+use Rattle.device_relation.proofs.Determined.{determined}
+use Rattle.device_relation.proofs.Stages.{reset_is}
+use Rattle.device_relation.proofs.Serves.{serves_for}
+use Rattle.device_relation.proofs.Resets.{reset_for}
+
+by_reset : (j : Joint) (p : Port) (b : Bool) → p.bus.reset ≡ b → StandsFor j p
+    → StandsFor (if b then record { table = reset_served j.table; software = unused true } else served_by j j.software.side) (if b then port_reset else with_stages p (finished_stage p.bus.side))
+by_reset j p true e f = reset_for j p f e
+by_reset j p false e f = serves_for j p f
+
+pub run_for : (j : Joint) (p : Port) → StandsFor j p → StandsFor (run j) (after_handler p)
+run_for j p f =
+    subst (λ b. StandsFor (if b then record { table = reset_served j.table; software = unused true } else served_by j j.software.side) (after_handler p))
+    (f.stands.core.reset ∙ sym (reset_is j.table)) (by_reset j p p.bus.reset refl f)
+
+-- the device with notes is determined
+pub port_is : (j : Joint) (p : Port) → StandsFor j p → port_of j ≡ p
+port_is j p f =
+    ap (λ b. record (port_of j) { bus = b }) (determined j.table j.software p.bus f.stands)
+    ∙ ap (λ v. record (port_of j) { bus = p.bus; heard = v }) (sym f.heard)
+    ∙ ap (λ v. record (port_of j) { bus = p.bus; heard = p.heard; next_address = v }) (sym f.next_address)
+    ∙ ap (λ v. record (port_of j) { bus = p.bus; heard = p.heard; next_address = p.next_address; reset = v }) (sym f.reset)
+    ∙ ap (λ v. record (port_of j) { bus = p.bus; heard = p.heard; next_address = p.next_address; reset = p.reset; finished = v }) (sym f.finished)
+    ∙ ap (λ v. record (port_of j) { bus = p.bus; heard = p.heard; next_address = p.next_address; reset = p.reset; finished = p.finished; request = v }) (sym f.request)

@@ -1,0 +1,32 @@
+-- What the driver of a device keeps between its calls, and the controller with it.
+use Rattle.std.specs.Prelude.{ℕ, Bool, List, [], Option, None}
+use Rattle.usb_descriptor.specs.declared.endpoint.Endpoint.{Endpoint}
+use Rattle.device_machine.specs.declared.control.Stage.{Stage}
+use Rattle.device_table.specs.State.{Table}
+use Rattle.device_relation.specs.declared.software.Ready.{Ready}
+use Rattle.device_relation.specs.declared.software.Ready.TheVariants as ready
+use Rattle.device_relation.specs.declared.software.Heard.{Heard}
+use Rattle.device_relation.specs.declared.software.Heard.TheVariants as heard
+
+pub record Software : Type 0 where
+  -- what endpoint 0 holds ready
+  pub side : Ready
+  -- what was taken from it last
+  pub heard : Heard
+  -- the address that the device has once the packet that is ready is acknowledged (USB 2.0, 9.4.6)
+  pub next_address : Option ℕ
+  -- the endpoints other than 0 that are open
+  pub open_ones : List Endpoint
+  -- the notes of a reset, of a stage that finished and of a SETUP, which nobody has taken
+  pub reset : Bool
+  pub finished : Option Stage
+  pub request : Option (List ℕ)
+
+-- the controller and the driver's software
+pub record Joint : Type 0 where
+  pub table : Table
+  pub software : Software
+
+-- at the start, and after a reset but for its note
+abbrev pub unused : Bool → Software
+unused reset = record { side = ready.Off; heard = heard.Nothing; next_address = None; open_ones = []; reset = reset; finished = None; request = None }
