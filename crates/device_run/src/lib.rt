@@ -4,6 +4,3 @@
 mod run;
 
 pub use run::DeviceRun;
-
-#[cfg(test)]
-mod tests;

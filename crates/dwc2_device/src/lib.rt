@@ -15,8 +15,6 @@ mod port;
 mod receive;
 mod reset;
 mod send;
-#[cfg(test)]
-mod tests;
 mod words;
 
 pub use notes::Note;

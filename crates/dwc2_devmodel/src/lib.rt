@@ -9,8 +9,6 @@ mod bus;
 mod controller;
 mod device_core;
 mod read;
-#[cfg(test)]
-mod tests;
 mod write;
 
 pub use device_core::DevCore;

@@ -11,6 +11,3 @@ mod transfer;
 
 pub use stack::DevStack;
 pub use usb_control::CoreState;
-
-#[cfg(test)]
-mod tests;

@@ -1,19 +1,13 @@
-//! Lines of a schedule by the word, with the accesses that RM0090 has for them.
-ghost use Rattle.std.specs.Prelude.{IfOk};
-ghost use Rattle.usb_descriptor.specs.Set.{IsAccepted};
-ghost use Rattle.device_schedule.specs.Job.{limits};
-
-use crate::DeviceRun;
+//! Lines of a schedule by the word, with the accesses that the driver makes for them, in its own order.
+use crate::sets::set_of;
+use device_run::DeviceRun;
 use dwc2_regs::Access;
 use std::alloc::Global;
 use std::process::Abort;
-use usb_descriptor::{DescSet, EpLimits, SetFault, SetParts, read_set};
 use usb_edge::FileDisks;
 use usb_packet::{BusAnswer, BusEvent};
 use usb_pipe::Reply;
 use usb_text::{Answer, DevCall, DevLine};
-
-const DEVICE: &[u8] = b"\x12\x01\x00\x02\x00\x00\x00\x40\xfe\xca\x01\x40\x00\x01\x00\x00\x00\x01";
 
 /// One interface without endpoints.
 const CONFIG: &[u8] = b"\x09\x02\x12\x00\x01\x01\x00\x80\x32\x09\x04\x00\x00\x00\xff\x00\x00\x00";
@@ -21,25 +15,8 @@ const CONFIG: &[u8] = b"\x09\x02\x12\x00\x01\x01\x00\x80\x32\x09\x04\x00\x00\x00
 /// GET_DESCRIPTOR of the device descriptor (USB 2.0, 9.4.3).
 const DESCRIPTOR: [u8; 8] = [0x80, 6, 0, 1, 0, 0, 18, 0];
 
-fn set_of() -> Result<DescSet, SetFault>
-    ensures { IfOk result (λ set. IsAccepted set limits) }
-{
-    let parts = SetParts {
-        device: DEVICE,
-        config: CONFIG,
-        strings: &[],
-        report: None,
-    };
-    let limits = EpLimits {
-        in_top: 3,
-        out_top: 3,
-        report_known: true,
-    };
-    read_set(&parts, limits)
-}
-
 fn opened(rt: &impl Abort, alloc: Global) -> DeviceRun {
-    let set = set_of().expect(rt, "accepted");
+    let set = set_of(CONFIG, &[]).expect(rt, "accepted");
     DeviceRun::open(alloc, set, None).expect(rt, "memory")
 }
 

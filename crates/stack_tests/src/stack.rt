@@ -1,11 +1,8 @@
 //! Requests on endpoint 0 over the registers of the controller.
-ghost use Rattle.std.specs.Prelude.{◌≡◌, ℕ, ◌<◌, ◌≤◌, [], IfOk, length, slice_index};
-ghost use Rattle.usb_descriptor.specs.Strings.{Ascend};
-ghost use Rattle.usb_descriptor.specs.Set.{IsAccepted};
-ghost use Rattle.usbd_core.specs.Device.{tops, Agrees};
+ghost use Rattle.std.specs.Prelude.{◌≡◌, ℕ, ◌<◌, ◌≤◌, [], slice_index};
+ghost use Rattle.usbd_core.specs.Device.{Agrees};
 
-use crate::DevStack;
-use crate::laws::bus_keeps;
+use crate::sets::{DEVICE, set_of};
 use arrayvec::ArrayVec;
 use device_relation::laws::event_fits;
 use dwc2_access::Regs;
@@ -14,41 +11,17 @@ use dwc2_regs::FS4;
 use std::alloc::Global;
 use std::process::Abort;
 use usb_control::CoreState;
-use usb_descriptor::{DescSet, EpLimits, SetFault, SetParts, StringPart, read_set};
+use usb_descriptor::StringPart;
 use usb_packet::{BusAnswer, BusEvent, Packet, Toggle};
+use usbd_core::DevStack;
+use usbd_core::laws::bus_keeps;
 
 type Device = DevStack<DevCore>;
-
-const DEVICE: &[u8] = b"\x12\x01\x00\x02\x00\x00\x00\x40\xfe\xca\x01\x40\x00\x01\x00\x00\x00\x01";
 
 /// Configuration 3: interface 0 with the bulk endpoints 81 and 01, interface 1 with the interrupt endpoint 02 of 8
 /// bytes. A descriptor of 5 bytes of a type that no rule speaks of stands in it.
 const CONFIG: &[u8] =
     b"\x09\x02\x35\x00\x02\x03\x00\xc0\x32\x09\x04\x00\x00\x02\xff\x00\x00\x00\x07\x05\x81\x02\x40\x00\x00\x07\x05\x01\x02\x40\x00\x00\x05\x41\x00\x00\x00\x09\x04\x01\x00\x01\xff\x00\x00\x00\x07\x05\x02\x03\x08\x00\x0a";
-
-/// The set of these descriptors and strings.
-fn set_of<'a>(
-    device: &'a [u8],
-    config: &'a [u8],
-    strings: &'a [StringPart],
-) -> Result<DescSet, SetFault>
-    requires few { length strings.now ≤ 8 }
-    requires ascending { Ascend 1 strings.now }
-    ensures { IfOk result (λ set. IsAccepted set tops) }
-{
-    let parts = SetParts {
-        device,
-        config,
-        strings,
-        report: None,
-    };
-    let limits = EpLimits {
-        in_top: 3,
-        out_top: 3,
-        report_known: true,
-    };
-    read_set(&parts, limits)
-}
 
 /// A device with this configuration and string 1, the letter A.
 fn device(rt: &impl Abort, alloc: Global, config: &[u8]) -> Device
@@ -61,7 +34,7 @@ fn device(rt: &impl Abort, alloc: Global, config: &[u8]) -> Device
     let strings = [StringPart { index: 1, body }];
     let mut bytes = ArrayVec::<u8, 512>::new();
     let _ = bytes.try_extend_from_slice(config);
-    let set = set_of(DEVICE, bytes.as_slice(), &strings).expect(rt, "accepted");
+    let set = set_of(bytes.as_slice(), &strings).expect(rt, "accepted");
     DevStack::open(alloc, DevCore::new(FS4), set, FS4).expect(rt, "memory")
 }
 

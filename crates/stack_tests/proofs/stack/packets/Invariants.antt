@@ -1,7 +1,7 @@
 -- The device agrees with its controller, and no bus event is due.
 use Rattle.std.proofs.Common.{◌≡◌, []}
 use Rattle.usbd_core.specs.Device.{Agrees}
-use Rattle.usbd_core.proofs.tests.packets.Given as goal
+use Rattle.stack_tests.proofs.stack.packets.Given as goal
 
 abbrev pub invariant-loop-allowed : goal.invariant-loop-allowed
 invariant-loop-allowed g l = record { agrees : Agrees l.device; still : l.device.port.bank.due ≡ [] }

@@ -2,8 +2,8 @@
 ghost use Rattle.std.specs.Prelude.{◌≡◌, []};
 ghost use Rattle.dwc2_access.specs.Registers.{IsRegister};
 
-use crate::DevCore;
 use dwc2_access::{Regs, Traced};
+use dwc2_devmodel::DevCore;
 use dwc2_regs::{
     DAINT, DAINTMSK, DCFG, DIEPTSIZ0, DOEPMSK, FS4, GINTSTS, GRSTCTL, GRXSTSP, GRXSTSR, diepctl,
     diepint, dieptsiz, doepctl, doepint, dtxfsts, fifo_window,

@@ -1,7 +1,7 @@
 -- The device agrees with its controller, and no bus event is due.
 use Rattle.std.proofs.Common.{◌≡◌, []}
 use Rattle.usbd_core.specs.Device.{Agrees}
-use Rattle.usbd_core.proofs.tests.halts.Given as goal
+use Rattle.stack_tests.proofs.stack.halts.Given as goal
 
 abbrev pub invariant-loop-ends : goal.invariant-loop-ends
 invariant-loop-ends g l = record { agrees : Agrees l.device; still : l.device.port.bank.due ≡ [] }
