@@ -1,8 +1,6 @@
 //! The driver over a controller that isn't woken yet.
 ghost use Rattle.std.specs.Prelude.{◌≡◌, []};
-ghost use Rattle.device_relation.specs.Relation.{IsSound};
 ghost use Rattle.dwc2_access.specs.Registers.{IsRegister};
-ghost use Rattle.dwc2_device.specs.Driver.{joint};
 
 use dwc2_access::Regs;
 use dwc2_device::DevPort;
@@ -20,8 +18,7 @@ const PLAN: FifoPlan = FifoPlan {
 
 /// A driver over a controller that is opened.
 fn opened() -> DevPort<DevCore>
-    ensures sound { IsSound (joint result) }
-    ensures due { result.bank.due ≡ [] }
+    ensures { result.bank.due ≡ [] }
 {
     let mut port = DevPort::new(DevCore::new(FS4), FS4);
     port.init(&PLAN);
@@ -51,7 +48,8 @@ fn opened_words(rt: HostRuntime) {
 /// The calls whose conditions stand on the device: a stalled device that no reset has woken, and its handler run.
 #[test]
 fn asleep(rt: HostRuntime) {
-    let mut port = opened();
+    let mut port = DevPort::new(DevCore::new(FS4), FS4);
+    port.init(&PLAN);
     port.stall_ep0();
     port.set_address(9);
     port.close_all();

@@ -11,7 +11,7 @@ pub const DEVICE: &[u8] =
     b"\x12\x01\x00\x02\x00\x00\x00\x40\xfe\xca\x01\x40\x00\x01\x00\x00\x00\x01";
 
 /// The set of this device with this configuration and these strings.
-pub fn set_of(config: &[u8], strings: &[StringPart]) -> Result<DescSet, SetFault>
+pub fn set_of<'a>(config: &'a [u8], strings: &'a [StringPart]) -> Result<DescSet, SetFault>
     requires few { length strings.now ≤ 8 }
     requires ascending { Ascend 1 strings.now }
     ensures { IfOk result (λ set. IsAccepted set tops) }

@@ -7,7 +7,7 @@ ghost use Rattle.usb_descriptor.specs.Rules.{breaks, first_broken, has_wrong_siz
 use crate::limits::EpLimits;
 use descriptor_row::{BULK, Descriptor, INTERRUPT, following};
 
-/// The rules on the descriptors of a row, in their order: the eighth to the eighteenth.
+/// The rules on the descriptors of a row, in their order: A8 to A18.
 #[derive(Clone, Copy)]
 pub enum Rule {
     /// Lengths of interfaces, endpoints and associations.

@@ -8,7 +8,7 @@ use crate::limits::{EpLimits, SetFault};
 use crate::rule::{Rule, interfaces};
 use descriptor_row::{Descriptor, left_of, read_row};
 
-/// The rules from the eighth on, in their order.
+/// The rules A8 to A18, in their order.
 const RULES: [Rule; 11] = [
     Rule::Sizes,
     Rule::Numbers,
@@ -82,7 +82,7 @@ fn config_fault(config: &[u8]) -> Option<SetFault>
     fault_if(6, config[5] == 0)
 }
 
-/// The fault of a rule from the eighth on.
+/// The fault of one of the rules A8 to A18.
 fn rule_fault(
     limits: EpLimits,
     row: &[Descriptor],
@@ -111,7 +111,7 @@ fn rule_fault(
     }
 }
 
-/// The fault of the first rule from the eighth on that is broken.
+/// The fault of the first of the rules A8 to A18 that is broken.
 fn first_fault(
     limits: EpLimits,
     row: &[Descriptor],

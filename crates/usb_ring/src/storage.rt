@@ -56,6 +56,7 @@ impl ByteRing {
         })
     }
 
+    /// How many bytes stand in the ring.
     pub fn len(&self) -> usize
         ensures count { result ≡ length self.now.bytes }
         ensures small { result ≤ MOST_BYTES }
@@ -63,6 +64,7 @@ impl ByteRing {
         self.len
     }
 
+    /// How many bytes more have room.
     pub fn free(&self) -> usize
         ensures sum { result + length self.now.bytes ≡ self.now.capacity }
         ensures small { result ≤ MOST_BYTES }
