@@ -2,7 +2,8 @@
 
 The table is one of effects: what each read gives, what each write and each bus event changes. A register or a bit that
 no rule below names is read as it was written, and does nothing. The controller has the endpoints 0 to 3 in each
-direction. `check_trace` walks the trace of a run of `usbrun device --regs` with it.
+direction and the channels 0 to 7. Registers are numbered to 11: those that the controller lacks read 0 and do nothing.
+`check_trace` walks the trace of a run of `usbrun device --regs` with it.
 """
 
 import re
@@ -10,8 +11,7 @@ import re
 PACKET = 64
 MOST_UNSERVED = 3
 MOST_ACCESSES = 400
-ENDPOINTS = range(4)
-CHANNELS = range(12)
+ENDPOINTS, CHANNELS, MOST_NUMBERED = range(4), range(8), 12
 TRANSMIT_DEPTHS = [16, 32, 32, 32]
 RECEIVE_DEPTH = 12 + 18 * len(ENDPOINTS)
 ALL = 0xFFFFFFFF
@@ -40,6 +40,20 @@ def dieptxf(x):
 
 def window(x):
     return 0x1000 + 0x1000 * x
+
+
+def numbered(offsets, stride, first):
+    """The registers at these offsets from a number on, up to the highest that has registers."""
+    return {off + stride * x for off in offsets for x in range(first, MOST_NUMBERED)}
+
+
+# the registers and windows of endpoints and channels that have offsets, and that the controller lacks
+LACKING = (
+    numbered((0x500, 0x508, 0x50C, 0x510), 0x20, len(CHANNELS))
+    | numbered((0x900, 0x908, 0x910, 0x918, 0xB00, 0xB08, 0xB10), 0x20, len(ENDPOINTS))
+    | numbered((window(0),), 0x1000, len(ENDPOINTS))
+    | {dieptxf(x) for x in range(len(ENDPOINTS), MOST_NUMBERED)}
+)
 
 
 def words_of(data):
@@ -210,7 +224,7 @@ class Registers:
         self.usbrst = self.enumdne = self.awake = False
         self.unserved = 0
         self.landed = None
-        kept = [GRSTCTL, HPTXFSIZ, HCFG, HPRT, DCFG, DCTL, DIEPEMPMSK] + [dieptxf(x) for x in range(4, 12)]
+        kept = [GRSTCTL, HPTXFSIZ, HCFG, HPRT, DCFG, DCTL, DIEPEMPMSK]
         kept += [at + 0x20 * x for at in (0x500, 0x510) for x in CHANNELS]
         masks = [GINTMSK, HAINTMSK, DIEPMSK, DOEPMSK, DAINTMSK] + [0x50C + 0x20 * x for x in CHANNELS]
         self.kept = dict.fromkeys(kept, 0) | dict.fromkeys(masks, ALL) | {GRXFSIZ: RECEIVE_DEPTH}
@@ -242,8 +256,8 @@ class Registers:
         if off in computed:
             return computed[off]()
         # nothing of a host comes about here, and what goes out is read at no window
-        others = [HAINT, DSTS] + [window(x) for x in ENDPOINTS] + [0x508 + 0x20 * x for x in CHANNELS]
-        return 0 if off in others else None
+        others = {HAINT, DSTS} | {window(x) for x in ENDPOINTS} | {0x508 + 0x20 * x for x in CHANNELS}
+        return 0 if off in others | LACKING else None
 
     def read_endpoint(self, endpoint, is_in, part):
         if part == 0x00:
