@@ -1,14 +1,15 @@
 #!/usr/bin/env python3
-"""Runs the worked rows of a folder on the built program: check_rows.py BINARY FOLDER
+"""Runs the worked rows of a folder on the built program: check_rows.py PROGRAM FOLDER
 
-Only rows that this state of the program serves are run. The status, the answers and the line of the status are compared
-whole.
+Only rows that this state of the program serves are run, each for at most 60 seconds. The status, the answers and the line of
+the status are compared whole. A served row that isn't in the folder fails.
 """
 
 import json
 import pathlib
-import subprocess
 import sys
+
+from program_run import outcome
 
 SERVED = ("row01a", "row01b", "row02", "row03a", "row03b", "row04", "row06", "row25a", "row25b", "row25c")
 
@@ -18,20 +19,22 @@ def wanted_of(row):
     return row["status"], out.encode(), row["err"].encode()
 
 
+def fault_of(program, path):
+    """What is wrong with a row, or None."""
+    if not path.exists():
+        return "it isn't there"
+    row = json.loads(path.read_text())
+    got, wanted = outcome([program, *row["words"]], row["job"].encode()), wanted_of(row)
+    return None if got == wanted else f"{got} for {wanted}"
+
+
 def main():
-    binary, folder = sys.argv[1], pathlib.Path(sys.argv[2])
-    failed = 0
-    for name in SERVED:
-        path = folder / f"{name}.json"
-        if not path.exists():
-            continue
-        row = json.loads(path.read_text())
-        done = subprocess.run([binary, *row["words"]], input=row["job"].encode(), capture_output=True, timeout=60)
-        got = (done.returncode, done.stdout, done.stderr)
-        if got != wanted_of(row):
-            print(f"{name}: {got} for {wanted_of(row)}")
-            failed += 1
-    print(f"rows: {len(SERVED) - failed} of {len(SERVED)} pass")
+    program, folder = sys.argv[1], pathlib.Path(sys.argv[2])
+    faults = {name: fault_of(program, folder / f"{name}.json") for name in SERVED}
+    failed = [name for name, why in faults.items() if why is not None]
+    for name in failed:
+        print(f"rows: {name}: {faults[name]}")
+    print(f"rows: {len(SERVED) - len(failed)} of {len(SERVED)} pass")
     return 1 if failed else 0
 
 

@@ -5,11 +5,16 @@ of a byte more.
     length_limit.py PROGRAM
 
 The first ends with status 0 and an answer to each line. The second ends with status 10, with an answer to each line but
-`end`, and with the line of that status on standard error. The exit status is 1 where a run differs.
+`end`, and with the line of that status on standard error. Each run has 600 seconds. The exit status is 1 where a run differs.
 """
+
 import subprocess
 import sys
 import tempfile
+import threading
+
+# seconds that a run may take
+SECONDS = 600
 
 LIMIT = 1 << 30
 HEAD = b"device 1201000200000040feca0140000100000001\nconfig 0902120001010080320904000000ff000000\nbegin\n"
@@ -38,11 +43,17 @@ def run(program, size):
     assert sum(len(piece) for piece in job) == size
     with tempfile.TemporaryFile() as out:
         process = subprocess.Popen([program, "device"], stdin=subprocess.PIPE, stdout=out, stderr=subprocess.PIPE)
-        for piece in job:
-            process.stdin.write(piece)
-        process.stdin.close()
+        late = threading.Timer(SECONDS, process.kill)
+        late.start()
+        try:
+            for piece in job:
+                process.stdin.write(piece)
+            process.stdin.close()
+        except BrokenPipeError:
+            pass
         told = process.stderr.read()
         status = process.wait()
+        late.cancel()
         out.seek(0)
         answers = sum(block.count(b"\n") for block in iter(lambda: out.read(1 << 20), b""))
     return status, answers - lines, told

@@ -1,9 +1,9 @@
 #!/usr/bin/env python3
 """Runs random jobs on a built `usbrun` and compares its status, its answers and what it tells with models of its own.
 
-The models do what docs/MODEL.md and docs/FORMATS.md say, and use no code of the crates. Their authors are those of the
-crates, so what both read wrongly stays unseen. A job that ends with status 0 is run with `--regs` too, and its trace
-has to be a run of a model of the controller's registers.
+The models (`job_model.py`) do what docs/MODEL.md and docs/FORMATS.md say, and use no code of the crates. Their authors are
+those of the crates, so what both read wrongly stays unseen. A job that ends with status 0 is run with `--regs` too, and its
+trace has to be a run of a model of the controller's registers. A run has 60 seconds.
 
     random_jobs.py PROGRAM [JOBS [SEED]]
 
@@ -11,147 +11,12 @@ A quarter of the jobs have some bytes changed, so that most of these are refused
 that isn't accepted. The status is 1 where a run differs; the first job that does is printed.
 """
 import random
-import re
-import subprocess
 import sys
 
-from descriptor_model import fault_of
-from device_model import PACKET, Device
+from device_model import PACKET
+from job_model import expected, schedule_of
+from program_run import outcome
 from register_model import Trace, check_trace
-
-MOST_LINE = 8400
-
-
-def number(word, least, most):
-    return int(word) if re.fullmatch(rb"0|[1-9][0-9]*", word) and least <= int(word) <= most else None
-
-
-def data(word, least, most):
-    if not re.fullmatch(rb"-|([0-9a-f]{2})+", word):
-        return None
-    value = b"" if word == b"-" else bytes.fromhex(word.decode())
-    return value if least <= len(value) <= most else None
-
-
-def choice(word, yes, no):
-    return {yes: True, no: False}.get(word)
-
-
-# what the words after a line's name are: a number or a HEX with its bounds, or a choice of two
-ADDRESS, ENDPOINT, FATE = (5, number, 0, 127), (5, number, 0, 15), (7, choice, b"ok", b"bad")
-SCHEDULE = {
-    b"reset": [],
-    b"irq": [],
-    b"task": [],
-    b"state": [],
-    b"end": [],
-    b"setup": [ADDRESS, (6, data, 8, 8), FATE],
-    b"out": [ADDRESS, ENDPOINT, (5, number, 0, 1), (6, data, 0, PACKET), FATE],
-    b"in": [ADDRESS, ENDPOINT, (7, choice, b"ok", b"noack")],
-}
-HEAD = {
-    b"device": [(6, data, 1, 64)],
-    b"config": [(6, data, 1, 600)],
-    b"string": [(5, number, 1, 255), (6, data, 2, 60)],
-    b"report": [(6, data, 1, 512)],
-    b"begin": [],
-}
-
-
-def read_line(line, table):
-    """The name and the fields of a line, or the lowest rule that it breaks."""
-    if len(line) > MOST_LINE:
-        return 1
-    if any(not 0x20 <= b <= 0x7E for b in line):
-        return 2
-    words = line.split(b" ")
-    name = next((word for word in words if word), b"")
-    if name not in table:
-        return 3
-    fields = table[name]
-    if len(words) != len(fields) + 1 or b"" in words:
-        return 4
-    values = [(rule, read(word, *bounds)) for (rule, read, *bounds), word in zip(fields, words[1:])]
-    broken = [rule for rule, value in values if value is None]
-    return min(broken) if broken else ("in_" if name == b"in" else name.decode(), *(value for _, value in values))
-
-
-class Head:
-    """The lines of a head so far."""
-
-    def __init__(self):
-        self.device = self.config = self.report = None
-        self.strings = {}
-
-    def add(self, name, *fields):
-        """Whether the line has its place."""
-        if name == "device":
-            good, self.device = self.device is None and self.config is None, fields[0]
-        elif name == "config":
-            good, self.config = self.device is not None and self.config is None, fields[0]
-        elif name == "string":
-            index, body = fields
-            good = self.config is not None and self.report is None and len(self.strings) < 8
-            good = good and index > max(self.strings, default=0)
-            self.strings[index] = body
-        elif name == "report":
-            good, self.report = self.config is not None and self.report is None, fields[0]
-        else:
-            good = self.config is not None
-        return good
-
-
-def bad_line(at, rule, text=""):
-    return 2, text.encode(), f"usbrun: line {at} rule {rule}\n".encode()
-
-
-def short(lines, text=""):
-    return 9, text.encode(), f"usbrun: job ends at line {lines}\n".encode()
-
-
-def expected(job):
-    """The status, the answers and the line of the status of a job's bytes."""
-    lines = job.split(b"\n")
-    if lines[-1] == b"":
-        lines.pop()
-    head, at = Head(), 0
-    for at, line in enumerate(lines, 1):
-        read = read_line(line, HEAD)
-        if isinstance(read, int):
-            return bad_line(at, read)
-        if not head.add(*read):
-            return bad_line(at, 8)
-        if read[0] == "begin":
-            break
-    else:
-        return short(len(lines))
-    fault = fault_of(head.device, head.config, head.report)
-    if fault is not None:
-        return 3, b"", "usbrun: set rule {} at {}\n".format(*fault).encode()
-    return run(Device(head.device, head.config, head.strings), lines, at)
-
-
-def run(device, lines, start):
-    text = ""
-    for at, line in enumerate(lines[start:], start + 1):
-        read = read_line(line, SCHEDULE)
-        if isinstance(read, int):
-            return bad_line(at, read, text)
-        if read[0] == "end":
-            return 0, text.encode(), b""
-        text += device.answer(read) + "\n"
-    return short(len(lines), text)
-
-
-def schedule_of(job):
-    """The lines between `begin` and `end` of a job that has both."""
-    lines, schedule = job.split(b"\n"), []
-    for line in lines[lines.index(b"begin") + 1 :]:
-        read = read_line(line, SCHEDULE)
-        if read[0] == "end":
-            break
-        schedule.append(read)
-    return schedule
 
 
 def random_interface(rng, number_, free, sound):
@@ -378,19 +243,19 @@ def changed(rng, job):
 def words_are_refused(program):
     """Whether words that are none of a command's, one that is no text among them, end with status 1 and its line."""
     for words in ([], [b"\xff"], [b"device", b"\xff\xfe"], [b"device", b"device"]):
-        done = subprocess.run([program, *words], stdin=subprocess.DEVNULL, capture_output=True, check=False)
-        if (done.returncode, done.stdout, done.stderr) != (1, b"", b"usbrun: usage\n"):
-            print(f"words {words} differ: {done.returncode} {done.stderr!r}")
+        got = outcome([program, *words])
+        if got != (1, b"", b"usbrun: usage\n"):
+            print(f"words {words} differ: {got[0]} {got[2]!r}")
             return False
     return True
 
 
 def trace_of(program, job, answers):
     """The accesses of a job's trace. Raises `Trace` where it isn't a run of the model of the registers."""
-    done = subprocess.run([program, "device", "--regs"], input=job, capture_output=True, check=False)
-    if (done.returncode, done.stderr) != (0, b""):
-        raise Trace(f"with --regs it ends {done.returncode} {done.stderr!r}")
-    return check_trace(schedule_of(job), done.stdout.decode(), answers.decode())
+    status, trace, told = outcome([program, "device", "--regs"], job)
+    if (status, told) != (0, b""):
+        raise Trace(f"with --regs it ends {status} {told!r}")
+    return check_trace(schedule_of(job), trace.decode(), answers.decode())
 
 
 def main():
@@ -404,19 +269,18 @@ def main():
         job = random_job(rng, sound=count % 2 == 1)
         if count % 4 == 0:
             job = changed(rng, job)
-        done = subprocess.run([program, "device"], input=job, capture_output=True, check=False)
-        got = (done.returncode, done.stdout, done.stderr)
+        got = outcome([program, "device"], job)
         if got != expected(job):
             sys.stdout.buffer.write(job)
             print(f"job {count} differs: {got[0]} {got[2]!r}, and not {expected(job)[0]} {expected(job)[2]!r}")
             return 1
         try:
-            accesses += trace_of(program, job, done.stdout) if done.returncode == 0 else 0
+            accesses += trace_of(program, job, got[1]) if got[0] == 0 else 0
         except Trace as wrong:
             sys.stdout.buffer.write(job)
             print(f"the trace of job {count} differs: {wrong}")
             return 1
-        statuses[done.returncode] = statuses.get(done.returncode, 0) + 1
+        statuses[got[0]] = statuses.get(got[0], 0) + 1
     told = ", ".join(f"{count} with status {status}" for status, count in sorted(statuses.items()))
     print(f"random jobs: {jobs} of {jobs} agree ({told})")
     print(f"register accesses: {accesses} checked in {statuses.get(0, 0)} traces")

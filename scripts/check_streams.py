@@ -1,0 +1,138 @@
+#!/usr/bin/env python3
+"""Runs a built `usbrun` on streams that fail, and compares its status, its line and its output with docs/FORMATS.md.
+
+    check_streams.py PROGRAM
+
+No contract speaks of what the real streams hold, so these runs are all that shows it: a closed input and a folder as input, an
+input that fails after some lines, a closed output, a full device, a file that may not grow, a reader that goes away, and
+the same of standard error, whose faults change nothing. Each run has 60 seconds. The exit status is 1 where one differs.
+"""
+
+import os
+import pty
+import resource
+import signal
+import subprocess
+import sys
+import tempfile
+import tty
+
+from job_model import expected
+from program_run import LIMIT
+
+HEAD = b"device 1201000200000040feca0140000100000001\nconfig 0902120001010080320904000000ff000000\nbegin\n"
+LINES = b"reset\nirq\ntask\nstate\n"
+JOB = HEAD + LINES * 20000 + b"end\n"
+BAD = HEAD + b"reset\nirq\nin 0 16 ok\n"
+# bytes that a file may have, in the run whose output is a file that may not grow
+MOST = 10000
+
+
+def close(number):
+    """What a new process does before it is the program: it has no such stream."""
+    return lambda: os.close(number)
+
+
+def stop_growth():
+    """As `close`: a file that it writes has at most so many bytes, and a write past that fails."""
+    signal.signal(signal.SIGXFSZ, signal.SIG_IGN)
+    resource.setrlimit(resource.RLIMIT_FSIZE, (MOST, MOST))
+
+
+def ended(process):
+    """Status, standard output and standard error of a process once it has ended, or a text for its status where it is late."""
+    try:
+        wrote, told = process.communicate(timeout=LIMIT)
+    except subprocess.TimeoutExpired:
+        process.kill()
+        wrote, told = process.communicate()
+        return f"none within {LIMIT} seconds", wrote, told
+    return process.returncode, wrote, told
+
+
+def start(program, given, out=None, err=None, before=None):
+    """The program on an open file, with other streams than pipes of its own where they are given."""
+    how = {"stdin": given, "stdout": out or subprocess.PIPE, "stderr": err or subprocess.PIPE}
+    return subprocess.Popen([program, "device"], preexec_fn=before, **how)
+
+
+def run(program, job, **how):
+    """What comes of a job's bytes in a file."""
+    with tempfile.TemporaryFile() as given:
+        given.write(job)
+        given.seek(0)
+        with start(program, given, **how) as process:
+            return ended(process)
+
+
+def folder_as_input(program):
+    given = os.open("/", os.O_RDONLY)
+    with start(program, given) as process:
+        os.close(given)
+        return ended(process)
+
+
+def failing_input(program):
+    """A terminal whose other end goes away after some whole lines and a part of one: a read fails then."""
+    ours, theirs = pty.openpty()
+    tty.setraw(theirs)
+    with start(program, ours) as process:
+        os.close(ours)
+        os.write(theirs, HEAD + LINES + b"sta")
+        os.close(theirs)
+        return ended(process)
+
+
+def gone_reader(program):
+    """Standard output is a pipe whose reader goes away after it read a little."""
+    ours, theirs = os.pipe()
+    with tempfile.TemporaryFile() as given:
+        given.write(JOB)
+        given.seek(0)
+        with start(program, given, out=theirs) as process:
+            os.close(theirs)
+            os.read(ours, 100)
+            os.close(ours)
+            return ended(process)
+
+
+def limited_file(program):
+    with tempfile.TemporaryFile() as out:
+        status, _, told = run(program, JOB, out=out, before=stop_growth)
+        out.seek(0)
+        return status, out.read(), told
+
+
+def cases(program):
+    """Each case's name, what came of it, and what is to come. None stands for a stream that isn't looked at."""
+    answers, read_fault, write_fault = expected(JOB)[1], b"usbrun: read fault\n", b"usbrun: write fault\n"
+    yield "a folder as input", folder_as_input(program), (4, b"", read_fault)
+    yield "a closed input", run(program, b"", before=close(0)), (4, b"", read_fault)
+    yield "an input that fails", failing_input(program), (4, expected(HEAD + LINES)[1], read_fault)
+    with open("/dev/full", "wb") as full:
+        yield "a full device", run(program, JOB, out=full), (5, None, write_fault)
+        yield "a full device for errors", run(program, BAD, err=full), (2, b"ok\nok\n", None)
+    yield "a closed output", run(program, JOB, before=close(1)), (5, b"", write_fault)
+    yield "a file that may not grow", limited_file(program), (5, answers[:MOST], write_fault)
+    yield "a reader that goes away", gone_reader(program), (5, None, write_fault)
+    yield "closed errors", run(program, BAD, before=close(2)), (2, b"ok\nok\n", b"")
+    yield "no fault", run(program, JOB), (0, answers, b"")
+
+
+def short(end):
+    return tuple(it[:60] if isinstance(it, bytes) else it for it in end)
+
+
+def main():
+    program, faults, count = sys.argv[1], 0, 0
+    for name, got, wanted in cases(program):
+        count += 1
+        if got != wanted:
+            faults += 1
+            print(f"streams: {name}: {short(got)}, and not {short(wanted)}")
+    print(f"streams: {count} runs, {faults} faults")
+    return 1 if faults else 0
+
+
+if __name__ == "__main__":
+    sys.exit(main())
