@@ -1,27 +1,56 @@
 #!/usr/bin/env bash
-# Lines a second and peak memory of the program, with the register lines shown and without, beside a C program that only
-# splits the lines of a job and writes about as many bytes as their answers have. Wants a C compiler, python3 and GNU time.
+# What a line costs: instructions, beside their target, and seconds and peak memory. The job is an enumeration again and again.
+# Wants Debian's packages valgrind and time, and python3: bench/run.sh [PROGRAM]
 set -eu
 top=$(cd "$(dirname "$0")/.." && pwd)
+# The most instructions that a line may take where the register lines are dropped. A plain program without proofs, with the
+# same registers and a driver over them, takes so many.
+TARGET=585
 work=$(mktemp -d)
 trap 'rm -rf "$work"' EXIT
-"$top/usbrun" device <"$top/examples/descriptor.job" >/dev/null
-program=$top/crates/usbrun/out/usbrun
-cc -O2 -o "$work/split" "$top/bench/split.c"
-for lines in 1000 1000000; do
-    python3 "$top/bench/jobs.py" "$lines" >"$work/job"
-    for command in "$program device" "$program device --regs" "$work/split"; do
+
+if [ $# -gt 0 ]; then
+    program=$1
+else
+    "$top/usbrun" device <"$top/examples/nothing.job"
+    program=$top/crates/usbrun/out/usbrun
+fi
+
+# What the program does with the register lines, under these words.
+named() { if [ "$*" = device ]; then echo "register lines dropped"; else echo "register lines shown"; fi; }
+
+# Instructions a line of a job of so many lines, under these words.
+instructions() {
+    local lines=$1
+    shift
+    valgrind --tool=callgrind --callgrind-out-file="$work/callgrind" "$program" "$@" <"$work/job" 2>&1 >/dev/null |
+        awk -v lines="$lines" '/refs:/ { gsub(",", "", $NF); printf "%d\n", $NF / lines + 0.5 }'
+}
+
+if command -v valgrind >/dev/null 2>&1; then
+    python3 "$top/bench/jobs.py" 100000 >"$work/job"
+    lines=$(wc -l <"$work/job")
+    dropped=$(instructions "$lines" device)
+    verdict=missed
+    [ "$dropped" -gt "$TARGET" ] || verdict=met
+    echo "instructions a line over $lines lines, $(named device): $dropped; target at most $TARGET: $verdict"
+    echo "instructions a line over $lines lines, $(named device --regs): $(instructions "$lines" device --regs)"
+else
+    echo "SKIPPED instructions: there is no valgrind"
+fi
+
+if [ ! -x /usr/bin/time ]; then
+    echo "SKIPPED seconds and memory: there is no /usr/bin/time"
+    exit 0
+fi
+for about in 1000 1000000; do
+    python3 "$top/bench/jobs.py" "$about" >"$work/job"
+    lines=$(wc -l <"$work/job")
+    for words in device "device --regs"; do
         # shellcheck disable=SC2086
-        /usr/bin/time -f '%e %M' -o "$work/time" $command <"$work/job" >"$work/out"
+        /usr/bin/time -f '%e %M' -o "$work/time" "$program" $words <"$work/job" >"$work/out"
         read -r seconds peak <"$work/time"
-        echo "$lines lines: ${command##*/} ${seconds} s, ${peak} KB, $(wc -c <"$work/out") bytes written"
+        # shellcheck disable=SC2086
+        echo "$lines lines, $(named $words): $seconds s, $peak KB at most, $(wc -c <"$work/out") bytes written"
     done
 done
-if command -v valgrind >/dev/null 2>&1; then
-    python3 "$top/bench/jobs.py" 10000 >"$work/job"
-    for command in "$program device" "$program device --regs" "$work/split"; do
-        # shellcheck disable=SC2086
-        valgrind --tool=callgrind --callgrind-out-file="$work/callgrind" $command <"$work/job" 2>&1 >/dev/null |
-            awk -v name="${command##*/}" '/refs:/ { gsub(",", "", $NF); printf "%s: %d instructions a line\n", name, $NF / 10000 }'
-    done
-fi
