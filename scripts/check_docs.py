@@ -31,7 +31,8 @@ def job_faults(top):
 
 def main():
     top = pathlib.Path(sys.argv[1] if len(sys.argv) > 1 else pathlib.Path(__file__).resolve().parent.parent)
-    documents = ["README.md", "CONTRIBUTING.md", "examples/README.md", *(f"docs/{it.name}" for it in sorted((top / "docs").glob("*.md")))]
+    documents = ["README.md", "CONTRIBUTING.md", "examples/README.md"]
+    documents += [f"docs/{it.name}" for it in sorted((top / "docs").glob("*.md"))]
     faults = [fault for it in documents for fault in faults_of(top, it)] + [*job_faults(top)]
     for fault in faults:
         print(f"documents: {fault}")
