@@ -1,0 +1,8 @@
+use Rattle.device_laws.proofs.Stages.{stages, some}
+use Rattle.device_laws.proofs.data_stages.Goals as goal
+
+pub returns-clause-packets : goal.returns-clause-packets
+returns-clause-packets c = stages
+
+pub returns-clause-some : goal.returns-clause-some
+returns-clause-some c = some

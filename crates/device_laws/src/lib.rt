@@ -1,0 +1,24 @@
+//! Laws of what a device does, in the words of USB 2.0, over the definitions that the code below and above cites. The
+//! functions do nothing: each contract is a law.
+#![tactic(auto)]
+
+ghost use Rattle.std.specs.Prelude.{◌≡◌, true};
+ghost use Rattle.usb_control.specs.Table.{rows};
+ghost use Rattle.device_laws.specs.Stages.{DataStages, HasPacket};
+ghost use Rattle.device_laws.specs.Requests.{all_differ, Each, IsDone, Directions};
+
+/// The packets of a data stage for the host: joined they are the data, cut to what the host asks for; each but the last has
+/// 64 bytes; the last is shorter, or the host has all that it asked for; and it is empty only where the host asked for more
+/// than there is (USB 2.0, 8.5.3.2 and 5.5.3).
+pub fn data_stages()
+    ensures packets { DataStages }
+    ensures some { HasPacket }
+{}
+
+/// The table of requests: no two rows are for one request, a request with a row is done as that row says, and data goes the
+/// way that bit 7 of bmRequestType says (USB 2.0, 9.3.1).
+pub fn request_table()
+    ensures distinct { all_differ rows ≡ true }
+    ensures each { Each IsDone rows }
+    ensures directions { Directions }
+{}
