@@ -6,6 +6,7 @@ ghost use Rattle.std.specs.Prelude.{◌≡◌, true};
 ghost use Rattle.usb_control.specs.Table.{rows};
 ghost use Rattle.device_laws.specs.Stages.{DataStages, HasPacket};
 ghost use Rattle.device_laws.specs.Requests.{all_differ, Each, IsDone, Directions};
+ghost use Rattle.device_laws.specs.Examples.{Reads, Setups, Addresses, Sessions};
 
 /// The packets of a data stage for the host: joined they are the data, cut to what the host asks for; each but the last has
 /// 64 bytes; the last is shorter, or the host has all that it asked for; and it is empty only where the host asked for more
@@ -21,4 +22,13 @@ pub fn request_table()
     ensures distinct { all_differ rows ≡ true }
     ensures each { Each IsDone rows }
     ensures directions { Directions }
+{}
+
+/// Schedules of endpoint 0 with their answers, worked by hand after USB 2.0: reads with lost packets, with full packets and
+/// with an empty one; SETUPs that are heard, unheard and too many, and what they end; addresses; sessions and halts.
+pub fn worked_schedules()
+    ensures reads { Reads }
+    ensures setups { Setups }
+    ensures addresses { Addresses }
+    ensures sessions { Sessions }
 {}
