@@ -5,6 +5,7 @@ mod disks;
 mod memory;
 mod real;
 mod stream;
+mod system;
 
 pub use disks::{Disks, FileDisks};
 pub use memory::{MemSink, MemSource};

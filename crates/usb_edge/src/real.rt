@@ -1,9 +1,8 @@
-ghost use Rattle.std.specs.Prelude.{◌≡◌, ℕ, ◌<◌, ◌≤◌, Some, None, IfSome, length};
-ghost use Rattle.usb_edge.specs.Stream.{Rose, last_count};
-ghost use Rattle.usb_edge.specs.Outcome.{IfWrote};
+ghost use Rattle.std.specs.Prelude.{◌≡◌, ◌<◌, None, length};
 
 use crate::stream::{Got, Sink, Source, Wrote};
-use std::io::{Read, Stderr, Stdin, Stdout, Write};
+use crate::system::{read_from, write_to};
+use std::io::{Stderr, Stdin, Stdout};
 
 /// Standard input. It tells no content.
 #[derive(Drop)]
@@ -25,46 +24,7 @@ impl Source for StdinSource {
     ghost faults = { λ s. s.faults };
 
     fn read(&mut self, buf: &mut [u8]) -> Got {
-        let faults = self.faults;
-        match self.stdin.read(buf) {
-            Ok(0) => Got::End,
-            Ok(n) => Got::Bytes(n),
-            Err(_) => {
-                self.faults = faults.saturating_add(1);
-                Got::Failed
-            }
-        }
-    }
-}
-
-/// Writes some of the bytes and flushes them: how many, or `None` where nothing was taken, or where the
-/// flush failed.
-fn write_through<W: Write>(to: &mut W, bytes: &[u8]) -> Option<usize>
-    ensures { IfSome result (λ n. (0 < n) × (n ≤ length bytes.now)) }
-{
-    let Ok(n) = to.write(bytes) else {
-        return None;
-    };
-    let Ok(()) = to.flush() else {
-        return None;
-    };
-    if n == 0 { None } else { Some(n) }
-}
-
-/// What a write did, with its fault counted where it failed.
-fn counted_write(done: Option<usize>, faults: &mut u64) -> Wrote
-    ensures bytes { IfWrote result (λ n. done ≡ Some n) }
-    ensures failed { result ≡ Wrote.Failed → Rose faults.old faults.new }
-    ensures count { faults.old ≤ faults.new }
-    ensures last { faults.new ≤ last_count }
-{
-    let before = *faults;
-    match done {
-        Some(n) => Wrote::Bytes(n),
-        None => {
-            *faults = before.saturating_add(1);
-            Wrote::Failed
-        }
+        read_from(&mut self.stdin, buf, &mut self.faults)
     }
 }
 
@@ -88,8 +48,7 @@ impl Sink for StdoutSink {
     ghost faults = { λ s. s.faults };
 
     fn write(&mut self, bytes: &[u8]) -> Wrote {
-        let done = write_through(&mut self.stdout, bytes);
-        counted_write(done, &mut self.faults)
+        write_to(&mut self.stdout, bytes, &mut self.faults)
     }
 }
 
@@ -113,8 +72,7 @@ impl Sink for StderrSink {
     ghost faults = { λ s. s.faults };
 
     fn write(&mut self, bytes: &[u8]) -> Wrote {
-        let done = write_through(&mut self.stderr, bytes);
-        counted_write(done, &mut self.faults)
+        write_to(&mut self.stderr, bytes, &mut self.faults)
     }
 }
 
