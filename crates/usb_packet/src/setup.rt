@@ -20,8 +20,10 @@ pub struct Setup {
 ghost use Rattle.usb_packet.specs.Setup.{fields_of, bytes_of};
 
 /// The fields of a SETUP packet's eight bytes.
+#[tactic(auto, using(crate::proofs::Fields::bytes_again))]
 pub fn setup_of(bytes: &[u8; 8]) -> Setup
-    ensures { result ≡ fields_of bytes.now }
+    ensures fields { result ≡ fields_of bytes.now }
+    ensures again { bytes_of result ≡ bytes.now }
 {
     Setup {
         request_type: bytes[0],

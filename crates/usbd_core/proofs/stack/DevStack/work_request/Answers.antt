@@ -20,7 +20,7 @@ returns-in-Some-clause-core g c =
       transfer = transfer_of s.transfer;
     } in
     c.begin.ensures.core
-    ∙ request_worked s.set (with s.request) (with c.take.new.self) c.in-Some.bytes c.setup_of.result (sym c.in-Some.ensures.value) (ap with c.in-Some.ensures.after) c.setup_of.ensures
+    ∙ request_worked s.set (with s.request) (with c.take.new.self) c.in-Some.bytes c.setup_of.result (sym c.in-Some.ensures.value) (ap with c.in-Some.ensures.after) c.setup_of.ensures.fields
     ∙ ap (λ (d : Device). with_request_worked d.set (core_of d)) c.self.view_is
 
 pub returns-in-Some-clause-agrees : goal.returns-in-Some-clause-agrees
