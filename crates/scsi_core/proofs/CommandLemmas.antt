@@ -1,5 +1,5 @@
 -- What every row of the table of commands keeps.
-use Rattle.std.proofs.Common.{◌≡◌, ◌≢◌, subst, ℕ, ◌+◌, ◌-◌, ◌≤◌, List, [], ◌∷◌, ◌++◌, take, Bool, true, false, nat_lt, nat_eq, if◌then◌else◌, IsTrue, Option, Some, None, unwrap_or, ◌⊎◌, inl, inr, refl, sym, arith, rules}
+use Rattle.std.proofs.Common.{◌≡◌, ◌≢◌, subst, ℕ, length, length-take, ◌+◌, ◌-◌, ◌≤◌, List, [], ◌∷◌, ◌++◌, take, Bool, true, false, nat_lt, nat_eq, if◌then◌else◌, IsTrue, Option, Some, None, unwrap_or, ◌⊎◌, inl, inr, refl, sym, arith, rules}
 use Rattle.std.specs.Prelude.{MatchOption, ⊤}
 use Rattle.std.proofs.lemmas.Bool.{ltb-false, eqb-true}
 use Rattle.byteorder.specs.Endian.{big_bytes}
@@ -7,9 +7,9 @@ use Rattle.scsi_core.specs.declared.Sense.{Sense}
 use Rattle.scsi_core.specs.declared.Unit.{Unit as Disk}
 use Rattle.scsi_core.specs.declared.Move.{Move}
 use Rattle.scsi_core.specs.declared.Move.TheVariants.{None as Nothing, In, Read, Write, Sync, Fail}
-use Rattle.scsi_core.specs.Sense.{no_sense, medium_may_have_changed, medium_not_present, address_out_of_range, write_protected, invalid_command, invalid_field, removal_prevented, fixed_format}
-use Rattle.scsi_core.specs.Command.{Outcome, done, failed, worked, IsSound, or_else, told, ready, in_range, writable, byte, bit_0, bit_1, number, start_stop, Row, table, unknown, row_of, by_row, data_move, request_sense, told_sense}
-use Rattle.scsi_core.specs.Laws.{IsMovable, sense_left, FailureKeeps}
+use Rattle.scsi_core.specs.Sense.{no_sense, is_no_sense, medium_may_have_changed, medium_not_present, address_out_of_range, write_protected, invalid_command, invalid_field, removal_prevented, fixed_format}
+use Rattle.scsi_core.specs.Command.{Outcome, done, failed, worked, IsSound, or_else, told, ready, in_range, writable, byte, bit_0, bit_1, number, start_stop, Row, table, unknown, row_of, by_row, data_move, data_in, inquiry_data, request_sense, told_sense}
+use Rattle.scsi_core.specs.Laws.{IsMovable, sense_left, FailureKeeps, IsAllowed, TellsSense, allocation_length}
 
 -- the laws of `command`, as one fact
 pub record KeepsLaws (old : Disk) (cdb : List ℕ) (o : Outcome) : Type 0 where
@@ -19,6 +19,8 @@ pub record KeepsLaws (old : Disk) (cdb : List ℕ) (o : Outcome) : Type 0 where
   pub movable : IsMovable old o.moves
   pub sense : o.leaves.sense ≡ sense_left o.moves
   pub failure : FailureKeeps old o.leaves o.moves
+  pub allowed : IsAllowed (byte 0 cdb) cdb o.moves
+  pub told : byte 0 cdb ≡ 3 → TellsSense old o.leaves cdb o.moves
   pub attention : byte 0 cdb ≢ 3 → (o.leaves.attention ≡ old.attention) ⊎ (o.moves ≡ Fail medium_may_have_changed)
 
 -- what holds of the outcome of each command but REQUEST SENSE, on a unit whose sense was forgotten
@@ -229,6 +231,120 @@ by_row_lawful unit cdb code h s =
     (unwrap_or_holds (IsLawful unit) (IsTrue unit.present) (ready unit cdb) _ (ready_lawful unit cdb h)
     (λ _. failed_lawful unit invalid_command h))
 
+-- data that is cut to the allocation length is allowed
+move_allowed : (code : ℕ) (cdb bytes : List ℕ) → length bytes ≤ allocation_length code cdb → IsAllowed code cdb (data_move bytes)
+move_allowed code cdb [] h = tt
+move_allowed code cdb (first ∷ rest) h = h
+
+cut_allowed : (code room : ℕ) (cdb bytes : List ℕ) → room ≡ allocation_length code cdb → IsAllowed code cdb (data_in bytes room)
+cut_allowed code room cdb bytes h = move_allowed code cdb (take room bytes) (omega (arith, length-take room bytes, h))
+
+-- a command that is refused gives no data
+refused_allowed : (code : ℕ) (cdb : List ℕ) (unit : Disk) (s : Sense) → IsAllowed code cdb (failed s unit).moves
+refused_allowed code cdb unit s = tt
+
+abbrev Refuses : ℕ → List ℕ → Option Outcome → Type 0
+Refuses code cdb o = MatchOption o ⊤ (λ p. IsAllowed code cdb p.moves)
+
+told_refuses : (code : ℕ) (cdb : List ℕ) (unit : Disk) → Refuses code cdb (told unit cdb)
+told_refuses code cdb unit = if_holds (Refuses code cdb) unit.attention _ _ (λ _. tt) (λ _. tt)
+
+ready_refuses : (code : ℕ) (cdb : List ℕ) (unit : Disk) → Refuses code cdb (ready unit cdb)
+ready_refuses code cdb unit =
+    or_else_holds (λ p. IsAllowed code cdb p.moves) ⊤ ⊤ (told unit cdb) _ (told_refuses code cdb unit)
+    (λ _. if_holds (Refuses code cdb) unit.present _ _ (λ _. tt) (λ _. tt))
+
+in_range_refuses : (code : ℕ) (cdb : List ℕ) (unit : Disk) → Refuses code cdb (in_range unit cdb)
+in_range_refuses code cdb unit =
+    or_else_holds (λ p. IsAllowed code cdb p.moves) ⊤ ⊤ (ready unit cdb) _ (ready_refuses code cdb unit)
+    (λ _. if_holds (Refuses code cdb) (nat_lt unit.blocks (number 2 4 cdb + number 7 2 cdb)) _ _ (λ _. tt) (λ _. tt))
+
+writable_refuses : (code : ℕ) (cdb : List ℕ) (unit : Disk) → Refuses code cdb (writable unit cdb)
+writable_refuses code cdb unit =
+    or_else_holds (λ p. IsAllowed code cdb p.moves) ⊤ ⊤ (in_range unit cdb) _ (in_range_refuses code cdb unit)
+    (λ _. if_holds (Refuses code cdb) unit.protected _ _ (λ _. tt) (λ _. tt))
+
+-- each row gives no more than its own command's allocation length
+abbrev Allows : Disk → List ℕ → Row → Type 0
+Allows unit cdb r = IsAllowed r.code cdb (by_row r unit cdb).moves
+
+after_asking : (code : ℕ) (cdb : List ℕ) (a : Option Outcome) (o : Outcome) → Refuses code cdb a → IsAllowed code cdb o.moves → IsAllowed code cdb (unwrap_or a o).moves
+after_asking code cdb a o h k = unwrap_or_holds (λ p. IsAllowed code cdb p.moves) ⊤ a o h (λ _. k)
+
+stop_allowed : (code : ℕ) (cdb : List ℕ) (unit : Disk) (flags : ℕ) → IsAllowed code cdb (start_stop unit flags).moves
+stop_allowed code cdb unit flags =
+    let P : Outcome → Type 0 = λ p. IsAllowed code cdb p.moves in
+    if_holds P (nat_eq flags 2) _ _ (λ _. if_holds P unit.prevented _ _ (λ _. tt) (λ _. tt))
+    (λ _. if_holds P (nat_eq flags 3) _ _ (λ _. if_holds P (nat_eq unit.blocks 0) _ _ (λ _. tt) (λ _. tt)) (λ _. tt))
+
+rows_allow : (unit : Disk) (cdb : List ℕ) → EachRow (Allows unit cdb) table
+rows_allow unit cdb =
+    let P : ℕ → Outcome → Type 0 = λ code p. IsAllowed code cdb p.moves in (
+      after_asking 0x00 cdb (ready unit cdb) _ (ready_refuses 0x00 cdb unit) tt,
+      (
+        if_holds (P 0x12) (bit_0 1 cdb) _ _ (λ _. tt) (λ _. cut_allowed 0x12 (number 3 2 cdb) cdb inquiry_data refl),
+        (
+          after_asking 0x1a cdb (ready unit cdb) _ (ready_refuses 0x1a cdb unit) (cut_allowed 0x1a (byte 4 cdb) cdb _ refl),
+          (
+            after_asking 0x1b cdb (told unit cdb) _ (told_refuses 0x1b cdb unit) (stop_allowed 0x1b cdb unit (byte 4 cdb)),
+            (
+              after_asking 0x1e cdb (told unit cdb) _ (told_refuses 0x1e cdb unit) tt,
+              (
+                after_asking 0x23 cdb (ready unit cdb) _ (ready_refuses 0x23 cdb unit) (cut_allowed 0x23 (number 7 2 cdb) cdb _ refl),
+                (
+                  after_asking 0x25 cdb (ready unit cdb) _ (ready_refuses 0x25 cdb unit)
+                      (move_allowed 0x25 cdb (big_bytes 4 (unit.blocks - 1) ++ big_bytes 4 512) (grind arith)),
+                  (
+                    after_asking 0x28 cdb (in_range unit cdb) _ (in_range_refuses 0x28 cdb unit)
+                        (if_holds (λ m. IsAllowed 0x28 cdb m) (nat_eq (number 7 2 cdb) 0) _ _ (λ _. tt) (λ _. tt)),
+                    (
+                      after_asking 0x2a cdb (writable unit cdb) _ (writable_refuses 0x2a cdb unit)
+                          (if_holds (λ m. IsAllowed 0x2a cdb m) (nat_eq (number 7 2 cdb) 0) _ _ (λ _. tt) (λ _. tt)),
+                      (
+                        after_asking 0x2f cdb (in_range unit cdb) _ (in_range_refuses 0x2f cdb unit)
+                            (if_holds (P 0x2f) (bit_1 1 cdb) _ _ (λ _. tt) (λ _. tt)),
+                        (after_asking 0x35 cdb (ready unit cdb) _ (ready_refuses 0x35 cdb unit) tt, tt),
+                      ),
+                    ),
+                  ),
+                ),
+              ),
+            ),
+          ),
+        ),
+      ),
+    )
+
+-- the row that is chosen for a code is one with that code, or none
+row_of_at : (P : ℕ → Row → Type 0) (rows : List Row) (code : ℕ) → EachRow (λ r. P r.code r) rows → P code unknown → P code (row_of rows code)
+row_of_at P [] code h k = k
+row_of_at P (first ∷ rest) code h k =
+    if_holds (P code) (nat_eq first.code code) first (row_of rest code)
+    (λ e. subst (λ c. P c first) (eqb-true first.code code e) h.0) (λ _. row_of_at P rest code h.1 k)
+
+by_row_allowed : (unit : Disk) (cdb : List ℕ) (code : ℕ) → IsAllowed code cdb (by_row (row_of table code) unit cdb).moves
+by_row_allowed unit cdb code =
+    row_of_at (λ c r. IsAllowed c cdb (by_row r unit cdb).moves) table code (rows_allow unit cdb)
+    (after_asking code cdb (ready unit cdb) _ (ready_refuses code cdb unit) tt)
+
+-- REQUEST SENSE, by whether a sense is pending
+no_sense_is : (s : Sense) → is_no_sense s ≡ true → s ≡ no_sense
+no_sense_is s h = grind arith
+
+no_sense_test : (s : Sense) → s ≡ no_sense → is_no_sense s ≡ true
+no_sense_test s h = rw h refl
+
+some_sense_test : (s : Sense) (b : Bool) → is_no_sense s ≡ b → s ≢ no_sense → is_no_sense s ≡ false
+some_sense_test s true e h = absurd (h (no_sense_is s e))
+some_sense_test s false e h = e
+
+request_sense_tells : (unit : Disk) (cdb : List ℕ) → TellsSense unit (request_sense unit cdb).leaves cdb (request_sense unit cdb).moves
+request_sense_tells unit cdb = record {
+  pending = λ h. let e = some_sense_test unit.sense (is_no_sense unit.sense) refl h in (rw e refl, rw e refl);
+  changed = λ h a. let e = no_sense_test unit.sense h in (rw (e, a) refl, rw e refl);
+  nothing = λ h a. let e = no_sense_test unit.sense h in (rw (e, a, h) refl, rw e refl);
+}
+
 request_sense_lawful : (unit : Disk) (cdb : List ℕ) → IsSound unit → byte 0 cdb ≡ 3 → KeepsLaws unit cdb (request_sense unit cdb)
 request_sense_lawful unit cdb h is_3 =
     let m : IsMovable unit (request_sense unit cdb).moves = data_movable unit (take (byte 4 cdb) (fixed_format (told_sense unit))) in
@@ -239,15 +355,20 @@ request_sense_lawful unit cdb h is_3 =
       movable = m;
       sense = data_sense (take (byte 4 cdb) (fixed_format (told_sense unit)));
       failure = data_keeps unit (request_sense unit cdb).leaves (take (byte 4 cdb) (fixed_format (told_sense unit)));
+      allowed = subst (λ c. IsAllowed c cdb (request_sense unit cdb).moves) (sym is_3) (cut_allowed 0x03 (byte 4 cdb) cdb (fixed_format (told_sense unit)) refl);
+      told = λ _. request_sense_tells unit cdb;
       attention = λ not_3. absurd (not_3 is_3);
     }
+
+other_code : (code : ℕ) → nat_eq code 3 ≡ false → code ≢ 3
+other_code code h is_3 = grind arith
 
 -- every command keeps the laws
 pub worked_keeps_laws : (unit : Disk) (cdb : List ℕ) → IsSound unit → KeepsLaws unit cdb (worked unit cdb)
 worked_keeps_laws unit cdb h =
     if_holds (KeepsLaws unit cdb) (nat_eq (byte 0 cdb) 3) _ _
     (λ e. request_sense_lawful unit cdb h (eqb-true (byte 0 cdb) 3 e))
-    (λ _. let o = by_row (row_of table (byte 0 cdb)) (record unit { sense = no_sense }) cdb in
+    (λ not_sense. let o = by_row (row_of table (byte 0 cdb)) (record unit { sense = no_sense }) cdb in
     let l = by_row_lawful (record unit { sense = no_sense }) cdb (byte 0 cdb) (record { given = h.given }) refl in
     record {
       size = l.blocks;
@@ -256,6 +377,8 @@ worked_keeps_laws unit cdb h =
       movable = movable_of unit o.moves l.movable;
       sense = l.sense;
       failure = keeps_of unit o.leaves o.moves l.keeps;
+      allowed = by_row_allowed (record unit { sense = no_sense }) cdb (byte 0 cdb);
+      told = λ is_3. absurd (other_code (byte 0 cdb) not_sense is_3);
       attention = λ _. l.attention;
     })
 

@@ -1,10 +1,11 @@
 -- What holds of every command, whatever its code.
-use Rattle.std.specs.Prelude.{◌≡◌, ◌+◌, ◌<◌, ◌≤◌, ⊤, false, IsTrue, length}
+use Rattle.std.specs.Prelude.{◌≡◌, ◌≢◌, ℕ, ◌+◌, ◌/◌, ◌<◌, ◌≤◌, ◌==◌, if◌then◌else◌, ⊤, true, false, IsTrue, List, length}
 use Rattle.scsi_core.specs.declared.Sense.{Sense}
 use Rattle.scsi_core.specs.declared.Unit.{Unit as Disk}
 use Rattle.scsi_core.specs.declared.Move.{Move}
 use Rattle.scsi_core.specs.declared.Move.TheVariants.{None as Nothing, In, Read, Write, Sync, Fail}
-use Rattle.scsi_core.specs.Sense.{no_sense}
+use Rattle.scsi_core.specs.Sense.{no_sense, medium_may_have_changed, fixed_format}
+use Rattle.scsi_core.specs.Command.{byte, number, data_in}
 
 -- what is to be moved is there to be moved: data has a byte at least, and blocks to be read or written are
 -- one at least, lie on a medium that is present, and if written then one that is not protected
@@ -33,3 +34,34 @@ FailureKeeps old new (In bytes) = ⊤
 FailureKeeps old new (Read lba count) = ⊤
 FailureKeeps old new (Write lba count) = ⊤
 FailureKeeps old new Sync = ⊤
+
+-- the most bytes that the host has room for: byte 4 of a six-byte command, whose group is 0, and bytes 7 and 8 of a
+-- ten-byte command (SPC-2 4.3.4.1 and 4.3.4.6); INQUIRY has bytes 3 and 4, and READ CAPACITY(10) no such field but 8 bytes
+abbrev pub allocation_length : ℕ → List ℕ → ℕ
+allocation_length code cdb =
+    if code == 0x12 then number 3 2 cdb
+    else if code == 0x25 then 8
+    else if code / 32 == 0 then byte 4 cdb
+    else number 7 2 cdb
+
+-- data for the host has at most so many bytes
+abbrev pub IsAllowed : ℕ → List ℕ → Move → Type 0
+IsAllowed code cdb Nothing = ⊤
+IsAllowed code cdb (In bytes) = length bytes.items ≤ allocation_length code cdb
+IsAllowed code cdb (Read lba count) = ⊤
+IsAllowed code cdb (Write lba count) = ⊤
+IsAllowed code cdb Sync = ⊤
+IsAllowed code cdb (Fail sense) = ⊤
+
+-- what REQUEST SENSE tells: the sense that is pending, and then an attention stays to be told later; where none is
+-- pending the attention, which then ends; and else that there is nothing (SPC-2 7.20)
+pub record TellsSense (old new : Disk) (cdb : List ℕ) (moves : Move) : Type 0 where
+  pub pending :
+      old.sense ≢ no_sense →
+      (moves ≡ data_in (fixed_format old.sense) (byte 4 cdb)) × (new.attention ≡ old.attention)
+  pub changed :
+      old.sense ≡ no_sense → old.attention ≡ true →
+      (moves ≡ data_in (fixed_format medium_may_have_changed) (byte 4 cdb)) × (new.attention ≡ false)
+  pub nothing :
+      old.sense ≡ no_sense → old.attention ≡ false →
+      (moves ≡ data_in (fixed_format no_sense) (byte 4 cdb)) × (new.attention ≡ false)

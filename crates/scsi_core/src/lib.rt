@@ -7,13 +7,14 @@
 #![tactic(auto)]
 
 mod data;
+pub mod laws;
 #[cfg(test)]
 mod tests;
 mod work;
 
 ghost use Rattle.std.specs.Prelude.{◌≡◌, ◌≢◌, ◌⊎◌, slice_index};
 ghost use Rattle.scsi_core.specs.Command.{worked, IsSound};
-ghost use Rattle.scsi_core.specs.Laws.{IsMovable, sense_left, FailureKeeps};
+ghost use Rattle.scsi_core.specs.Laws.{IsMovable, sense_left, FailureKeeps, IsAllowed, TellsSense};
 ghost use Rattle.scsi_core.specs.Sense.{fixed_format, medium_may_have_changed};
 
 use arrayvec::ArrayVec;
@@ -72,6 +73,12 @@ pub fn command(unit: &mut Unit, cdb: &[u8; 16]) -> Move
     ensures movable { IsMovable unit.old result }
     ensures sense { unit.new.sense ≡ sense_left result }
     ensures failure { FailureKeeps unit.old unit.new result }
+
+    // Data for the host is no more than it has room for.
+    ensures allowed { IsAllowed (slice_index cdb.now 0) cdb.now result }
+
+    // REQUEST SENSE tells what is pending first, and the attention stays until it is told.
+    ensures told { slice_index cdb.now 0 ≡ 3 → TellsSense unit.old unit.new cdb.now result }
 
     // REQUEST SENSE aside, the attention ends only with the failure that tells it.
     ensures attention { slice_index cdb.now 0 ≢ 3

@@ -15,5 +15,7 @@ returns c =
       movable = l.movable;
       sense = l.sense;
       failure = l.failure;
+      allowed = l.allowed;
+      told = l.told;
       attention = l.attention;
     }
