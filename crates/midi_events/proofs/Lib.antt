@@ -1,2 +1,3 @@
 pub mod ByteKinds
 pub mod Stream
+pub mod Table

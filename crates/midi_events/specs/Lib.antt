@@ -3,3 +3,5 @@ pub mod Events
 pub mod Kept
 pub mod Packing
 pub mod Spoken
+pub mod Table
+pub mod Worked
