@@ -1,3 +1,4 @@
 pub mod Stages
 pub mod Requests
 pub mod Examples
+pub mod Seen

@@ -7,6 +7,7 @@ ghost use Rattle.usb_control.specs.Table.{rows};
 ghost use Rattle.device_laws.specs.Stages.{DataStages, HasPacket};
 ghost use Rattle.device_laws.specs.Requests.{all_differ, Each, IsDone, Directions};
 ghost use Rattle.device_laws.specs.Examples.{Reads, Setups, Addresses, Sessions};
+ghost use Rattle.device_laws.specs.Seen.{AddressIsSeen, SetupIsHeard, OthersAreIgnored, BusyAnswersNak};
 
 /// The packets of a data stage for the host: joined they are the data, cut to what the host asks for; each but the last has
 /// 64 bytes; the last is shorter, or the host has all that it asked for; and it is empty only where the host asked for more
@@ -31,4 +32,21 @@ pub fn worked_schedules()
     ensures setups { Setups }
     ensures addresses { Addresses }
     ensures sessions { Sessions }
+{}
+
+/// Over every schedule, by what is seen of the device from outside (its lines and their answers alone). The address is 0 until
+/// a handler run finds the status stage of a SET_ADDRESS acknowledged, which sets the one asked for, and 0 again once a
+/// handler run served a reset; it is always below 128 (USB 2.0, 9.4.6).
+pub fn addresses_follow_their_requests()
+    ensures { AddressIsSeen }
+{}
+
+/// Over every schedule. A device that isn't addressed, or no handler run of which has served the last reset, or that had none
+/// yet, answers nothing (USB 2.0, 9.1.1.3). An undamaged SETUP to it is acknowledged whatever endpoint 0 does, also where it
+/// stalls, unless three lie unserved; and from then on endpoint 0 answers NAK until a handler run served the SETUP and a task
+/// took it (8.5.3, 8.6.1).
+pub fn setups_are_heard()
+    ensures ignored { OthersAreIgnored }
+    ensures setup { SetupIsHeard }
+    ensures busy { BusyAnswersNak }
 {}
