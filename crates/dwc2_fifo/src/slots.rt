@@ -104,16 +104,23 @@ impl SlotRing {
         }
     }
 
-    /// The status of the first entry, 0 where there is none.
-    pub fn front_status(&self) -> u32
+    // The status of the first entry, 0 where there is none, by the number of words in front of it.
+    fn status_behind(&self, words: usize) -> u32
+        requires { words ≡ length (left_in self.now) }
         ensures { result ≡ first_status (entries_in self.now) }
     {
-        let place = self.data_in_front();
-        match self.get(place) {
+        match self.get(words) {
             Some(Slot::Status(status)) => status,
             Some(Slot::Data(_)) => 0,
             None => 0,
         }
+    }
+
+    /// The status of the first entry, 0 where there is none.
+    pub fn front_status(&self) -> u32
+        ensures { result ≡ first_status (entries_in self.now) }
+    {
+        self.status_behind(self.data_in_front())
     }
 
     /// Takes the first entry's status away, with all data in front of it.
@@ -122,8 +129,8 @@ impl SlotRing {
         ensures popped { (depth : ℕ) → rx_of self.new depth ≡ popped (rx_of self.old depth) }
         ensures shorter { length self.new ≤ length self.old }
     {
-        let status = self.front_status();
         let place = self.data_in_front();
+        let status = self.status_behind(place);
         if place < self.len() {
             self.skip(place + 1);
         }

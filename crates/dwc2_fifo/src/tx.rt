@@ -5,7 +5,7 @@ ghost use Rattle.dwc2_fifo.specs.Words.{word_count};
 ghost use Rattle.dwc2_fifo.specs.Tx.{Tx, space_of, empty_of, IsEmpty, begun_in, with_word, first_with, without_first};
 
 use arrayvec::ArrayVec;
-use dwc2_regs::unpack_word;
+use dwc2_regs::{unpack_word, word_bytes};
 use std::marker::Model;
 use usb_packet::Packet;
 
@@ -89,8 +89,12 @@ fn append_bytes(bytes: &mut ArrayVec<u8, 4096>, word: u32, count: u8)
     requires room { length bytes.old.items + count ≤ 4096 }
     ensures { bytes.new.items ≡ bytes.old.items ++ bytes_of count word }
 {
-    let new = unpack_word(word, count);
-    let _ = bytes.try_extend_from_slice(new.as_slice());
+    if count == 4 {
+        let _ = bytes.try_extend_from_slice(&word_bytes(word));
+    } else {
+        let new = unpack_word(word, count);
+        let _ = bytes.try_extend_from_slice(new.as_slice());
+    }
 }
 
 // Takes the bytes of one packet out of the row.
@@ -99,7 +103,9 @@ fn close_gap(bytes: &mut ArrayVec<u8, 4096>, start: usize, len: usize)
     ensures { bytes.new.items ≡ take start bytes.old.items ++ drop (start + len) bytes.old.items }
 {
     let kept = bytes.len() - len;
-    rotate_from(bytes.as_mut_slice(), start, len);
+    if start < kept {
+        rotate_from(bytes.as_mut_slice(), start, len);
+    }
     bytes.truncate(kept);
 }
 

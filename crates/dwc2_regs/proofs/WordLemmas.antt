@@ -1,23 +1,7 @@
 -- Up to four bytes and the word that they make.
 use Rattle.std.proofs.Common.{◌≡◌, ℕ, zero, suc, ◌+◌, ◌*◌, ◌/◌, ◌%◌, ◌<◌, ◌≤◌, List, [], ◌∷◌, ◌++◌, length, get_or, take, drop, refl, ap, arith}
-use Rattle.std.specs.Prelude.{slice_index}
 use Rattle.std.proofs.Math.Nat.{div-div-eq-div-mul}
 use Rattle.dwc2_regs.specs.Word.{word_of, bytes_of}
-
--- the word of four bytes, each by its place
-abbrev of_places : List ℕ → ℕ
-of_places xs =
-    slice_index xs 0 + slice_index xs 1 * 256 + slice_index xs 2 * 65536 + slice_index xs 3 * 16777216
-
--- up to four bytes, with 0 behind them, are by their places the word that they make
-pub word_of-places : (bytes : List ℕ) → length bytes ≤ 4
-    → of_places (bytes ++ drop (length bytes) (0 ∷ 0 ∷ 0 ∷ 0 ∷ [])) ≡ word_of bytes
-word_of-places [] h = refl
-word_of-places (a ∷ []) h = omega arith
-word_of-places (a ∷ b ∷ []) h = omega arith
-word_of-places (a ∷ b ∷ c ∷ []) h = omega arith
-word_of-places (a ∷ b ∷ c ∷ d ∷ []) h = omega arith
-word_of-places (a ∷ b ∷ c ∷ d ∷ e ∷ rest) h = absurd (omega arith)
 
 -- the bytes of a word are those that it was made of
 pub bytes_of-word_of : (bytes : List ℕ) → ((i : ℕ) → get_or bytes i 0 < 256)

@@ -11,7 +11,7 @@ pub struct Field {
 }
 
 /// Reads a field: the number in its bits.
-#[inline]
+#[inline(always)]
 pub fn get_field(word: u32, field: Field) -> u32
     requires width { 1 ≤ field.width }
     requires within { field.low + field.width ≤ 32 }
@@ -22,7 +22,7 @@ pub fn get_field(word: u32, field: Field) -> u32
 }
 
 /// Writes a field: puts the number into its bits, and leaves all other bits.
-#[inline]
+#[inline(always)]
 pub fn put_field(word: u32, field: Field, value: u32) -> u32
     requires width { 1 ≤ field.width }
     requires within { field.low + field.width ≤ 32 }

@@ -23,7 +23,7 @@ pub use offsets::{
     diepctl, diepint, dieptsiz, dieptxf, doepctl, doepint, doeptsiz, dtxfsts, fifo_window, hcchar,
     hcint, hcintmsk, hctsiz,
 };
-pub use words::{pack_word, unpack_word};
+pub use words::{pack_word, unpack_word, word_bytes};
 
 // Offsets.
 
