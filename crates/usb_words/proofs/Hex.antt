@@ -11,7 +11,7 @@ use Rattle.usb_words.specs.Field.{AreBytes, hex_digit, hex_pair, hex, digit_valu
 digit_again : (n : ℕ) → n < 16 → digit_value (hex_digit n) ≡ Some n
 digit_again n h = grind (arith, nat_tests)
 
-digit_only : (c n : ℕ) → digit_value c ≡ Some n → (c ≡ hex_digit n) × (n < 16)
+pub digit_only : (c n : ℕ) → digit_value c ≡ Some n → (c ≡ hex_digit n) × (n < 16)
 digit_only c n h = grind (arith, nat_tests)
 
 pair_again : (b : ℕ) → b < 256 → pair_value (hex_digit (b / 16)) (hex_digit (b % 16)) ≡ Some b

@@ -1,6 +1,5 @@
 -- Pairs of hexadecimal digits, read from the front.
-use Rattle.std.proofs.Common.{◌≡◌, ℕ, ◌+◌, ◌*◌, ◌/◌, ◌%◌, ◌<◌, ◌≤◌, List, [], ◌∷◌, ◌++◌, length, drop, get_or, Option, Some, None, false, refl, ap, ◌∙◌, append_assoc, drop_of_length-le, codes, arith}
-use Rattle.std.proofs.lemmas.List.{drop_more}
+use Rattle.std.proofs.Common.{◌-◌, take, take_all, length-take-le, length-drop, sym, slice_index, ◌≡◌, ℕ, ◌*◌, ◌/◌, ◌%◌, ◌<◌, ◌≤◌, List, [], ◌∷◌, ◌++◌, length, drop, Option, Some, None, false, refl, ap, ◌∙◌, append_assoc, codes, arith}
 use Rattle.std.specs.Str.{bytes_eq}
 use Rattle.std.proofs.lemmas.Bool.Decides.{nat_tests}
 use Rattle.usb_words.specs.Field.{pair_value, with_byte, bytes_of_pairs, at_most, bytes_in}
@@ -23,17 +22,6 @@ after_bytes read (Some bytes) = Some (read ++ bytes)
 pub after_more : (read : List ℕ) (byte : ℕ) (rest : Option (List ℕ)) → after_bytes (read ++ byte ∷ []) rest ≡ after_bytes read (with_byte (Some byte) rest)
 after_more read byte None = refl
 after_more read byte (Some bytes) = ap Some (append_assoc read (byte ∷ []) bytes)
-
--- the next pair, and the digits after it
-pub next_pair : (word : List ℕ) (i : ℕ) → 2 * i + 1 < length word
-    → bytes_of_pairs (drop (2 * i) word) ≡ with_byte (pair_value (get_or word (2 * i) 0) (get_or word (2 * i + 1) 0)) (bytes_of_pairs (drop (2 * (i + 1)) word))
-next_pair word i h =
-    let one : 2 * i < length word = omega arith in
-    let e : 2 * (i + 1) ≡ 2 * i + 1 + 1 = omega arith in
-    rw (drop_more word (2 * i) 0 one, drop_more word (2 * i + 1) 0 h, e) refl
-
-pub no_pairs_left : (word : List ℕ) (i : ℕ) → length word ≤ 2 * i → bytes_of_pairs (drop (2 * i) word) ≡ Some []
-no_pairs_left word i h = ap bytes_of_pairs (drop_of_length-le word h)
 
 -- two digits make a byte
 pairs_half : (c d : ℕ) (cs : List ℕ) (x : Option ℕ) (r : Option (List ℕ)) (bytes : List ℕ)
@@ -74,3 +62,15 @@ long_word n word other some h = paired n word other some ∙ many_pairs word n h
 
 pub short_word : (n : ℕ) (word : List ℕ) → bytes_eq word (codes "-") ≡ false → 0 < length word → length word / 2 ≤ n → bytes_in n word ≡ bytes_of_pairs word
 short_word n word other some h = paired n word other some ∙ few_pairs word n h
+
+-- the first pair, and the digits after it
+pub first_pair : (word : List ℕ) → 2 ≤ length word
+    → bytes_of_pairs word ≡ with_byte (pair_value (slice_index word 0) (slice_index word 1)) (bytes_of_pairs (take (length word - 2) (drop 2 word)))
+first_pair [] h = absurd (omega arith)
+first_pair (c ∷ []) h = absurd (omega arith)
+first_pair (c ∷ d ∷ cs) h =
+    let few : length cs ≤ length (c ∷ d ∷ cs) - 2 = omega arith in
+    ap (λ (xs : List ℕ). with_byte (pair_value c d) (bytes_of_pairs xs)) (sym (take_all (length (c ∷ d ∷ cs) - 2) cs few))
+
+pub length-others : (word : List ℕ) → length (take (length word - 2) (drop 2 word)) ≡ length word - 2
+length-others word = length-take-le (length word - 2) (drop 2 word) (omega (arith, length-drop 2 word)) ∙ omega arith

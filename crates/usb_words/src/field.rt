@@ -57,16 +57,35 @@ pub fn value(digits: &[u8]) -> u64
     value
 }
 
+/// The value of each byte as a hexadecimal digit in lower case, and 16 where it is none.
+#[rattlefmt::skip]
+static DIGIT_VALUES: [u8; 256] = [
+    16, 16, 16, 16, 16, 16, 16, 16, 16, 16, 16, 16, 16, 16, 16, 16,
+    16, 16, 16, 16, 16, 16, 16, 16, 16, 16, 16, 16, 16, 16, 16, 16,
+    16, 16, 16, 16, 16, 16, 16, 16, 16, 16, 16, 16, 16, 16, 16, 16,
+    0, 1, 2, 3, 4, 5, 6, 7, 8, 9, 16, 16, 16, 16, 16, 16,
+    16, 16, 16, 16, 16, 16, 16, 16, 16, 16, 16, 16, 16, 16, 16, 16,
+    16, 16, 16, 16, 16, 16, 16, 16, 16, 16, 16, 16, 16, 16, 16, 16,
+    16, 10, 11, 12, 13, 14, 15, 16, 16, 16, 16, 16, 16, 16, 16, 16,
+    16, 16, 16, 16, 16, 16, 16, 16, 16, 16, 16, 16, 16, 16, 16, 16,
+    16, 16, 16, 16, 16, 16, 16, 16, 16, 16, 16, 16, 16, 16, 16, 16,
+    16, 16, 16, 16, 16, 16, 16, 16, 16, 16, 16, 16, 16, 16, 16, 16,
+    16, 16, 16, 16, 16, 16, 16, 16, 16, 16, 16, 16, 16, 16, 16, 16,
+    16, 16, 16, 16, 16, 16, 16, 16, 16, 16, 16, 16, 16, 16, 16, 16,
+    16, 16, 16, 16, 16, 16, 16, 16, 16, 16, 16, 16, 16, 16, 16, 16,
+    16, 16, 16, 16, 16, 16, 16, 16, 16, 16, 16, 16, 16, 16, 16, 16,
+    16, 16, 16, 16, 16, 16, 16, 16, 16, 16, 16, 16, 16, 16, 16, 16,
+    16, 16, 16, 16, 16, 16, 16, 16, 16, 16, 16, 16, 16, 16, 16, 16,
+];
+
+#[tactic(auto, using(crate::proofs::Digits::digit_in_table, crate::proofs::Digits::none_in_table))]
 /// The value of a hexadecimal digit in lower case.
 fn digit_value(digit: u8) -> Option<u8>
     ensures value { result ≡ digit_value digit }
     ensures low { IfSome result (λ v. v < 16) }
 {
-    match digit {
-        b'0'..=b'9' => Some(digit - b'0'),
-        b'a'..=b'f' => Some(digit - 87),
-        _ => None,
-    }
+    let value = DIGIT_VALUES[digit as usize];
+    if value < 16 { Some(value) } else { None }
 }
 
 /// The byte of two hexadecimal digits.
@@ -84,15 +103,17 @@ fn read_pairs<const N: usize>(word: &[u8]) -> Option<ArrayVec<u8, N>>
     requires { length word.now / 2 ≤ N }
     ensures { option_map (λ v. v.items) result ≡ bytes_of_pairs word.now }
 {
-    if word.len() % 2 == 1 {
-        return None;
-    }
     let mut bytes: ArrayVec<u8, N> = ArrayVec::new();
-    for i in 0..word.len() / 2 {
-        match pair_value(word[2 * i], word[2 * i + 1]) {
+    let mut rest = word;
+    while let [high, low, others @ ..] = rest {
+        match pair_value(*high, *low) {
             Some(byte) => bytes.push(byte),
             None => return None,
         }
+        rest = others;
+    }
+    if !rest.is_empty() {
+        return None;
     }
     Some(bytes)
 }

@@ -1,16 +1,18 @@
-use Rattle.std.proofs.Common.{◌*◌, ◌+◌, drop, sym, ap, ◌∙◌, arith}
+use Rattle.std.proofs.Common.{◌-◌, length, take, drop, sym, ap, ◌∙◌, arith}
 use Rattle.usb_words.specs.Field.{with_byte, bytes_of_pairs}
-use Rattle.usb_words.proofs.Pairs.{after_bytes, after_more, next_pair}
+use Rattle.usb_words.proofs.Pairs.{after_bytes, after_more, first_pair, length-others}
 use Rattle.usb_words.proofs.field.read_pairs.Goals as goal
 
-pub loop-i-preserved : goal.loop-i-preserved
-loop-i-preserved g c =
-    let rest = bytes_of_pairs (drop (2 * (c.loop-i.i + 1)) c.args.word.now) in
+pub loop-rest-preserved : goal.loop-rest-preserved
+loop-rest-preserved g c =
+    let word = c.loop-rest.rest.now in
+    let read = c.loop-rest.bytes.items in
+    let rest = bytes_of_pairs (take (length word - 2) (drop 2 word)) in
     record {
-      count = omega arith;
+      room = omega (arith, length-others word);
       same = rw c.push.ensures.items (
-          after_more c.loop-i.bytes.items c.in-Some.byte rest
-          ∙ ap (λ p. after_bytes c.loop-i.bytes.items (with_byte p rest)) c.in-Some.ensures
-          ∙ ap (after_bytes c.loop-i.bytes.items) (sym (next_pair c.args.word.now c.loop-i.i (omega arith)))
-          ∙ c.loop-i.invariant.same);
+          after_more read c.in-Some.byte rest
+          ∙ ap (λ p. after_bytes read (with_byte p rest)) (sym c.in-Some.is ∙ c.pair_value.ensures)
+          ∙ ap (after_bytes read) (sym (first_pair word (omega arith)))
+          ∙ c.loop-rest.invariant.same);
     }
