@@ -1,0 +1,7 @@
+pub mod Toggles
+pub mod OutPipe
+pub mod InPipe
+pub mod Link
+pub mod OutLink
+pub mod InLink
+pub mod Laws
