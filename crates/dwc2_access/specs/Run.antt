@@ -1,5 +1,5 @@
 -- A list of accesses to registers as a run of the controller's table.
-use Rattle.std.specs.Prelude.{◌≡◌, Bool, true, false, if◌then◌else◌, List, [], ◌∷◌}
+use Rattle.std.specs.Prelude.{◌≡◌, false, if◌then◌else◌, List, [], ◌∷◌}
 use Rattle.dwc2_regs.specs.declared.access.Access.{Access}
 use Rattle.device_table.specs.State.{Table}
 use Rattle.device_table.specs.Read.{read_value, read_table}

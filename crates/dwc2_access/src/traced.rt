@@ -57,6 +57,7 @@ impl<R: Regs + Drop> Regs for Traced<R> {
         self.accesses.clear();
     }
 
+    #[tactic(auto, using(crate::proofs::Listed::read_listed))]
     fn read(&mut self, off: u16) -> u32 {
         let value = self.inner.read(off);
         self.list(Access {
@@ -67,6 +68,7 @@ impl<R: Regs + Drop> Regs for Traced<R> {
         value
     }
 
+    #[tactic(auto, using(crate::proofs::Listed::write_listed))]
     fn write(&mut self, off: u16, value: u32) {
         self.inner.write(off, value);
         self.list(Access {

@@ -10,6 +10,17 @@ read_goes_on old new off known some e start m = reads m off known some e
 pub write_goes_on : (old new : Bank) (off word : ℕ) → IsRegister off → 1 ≤ old.spare → new ≡ bank_write old off word → GoesOn old new
 write_goes_on old new off word known some e start m = writes m off word known some e
 
+-- nothing is due after an access where nothing was
+pub read_still : (old new : Bank) (off : ℕ) → old.due ≡ [] → new ≡ bank_read old off → new.due ≡ []
+read_still old new off due e = ap (λ (b : Bank). b.due) e ∙ still old due where
+  still : (b : Bank) → b.due ≡ [] → (bank_read b off).due ≡ []
+  still b e = rw (e) refl
+
+pub write_still : (old new : Bank) (off word : ℕ) → old.due ≡ [] → new ≡ bank_write old off word → new.due ≡ []
+write_still old new off word due e = ap (λ (b : Bank). b.due) e ∙ still old due where
+  still : (b : Bank) → b.due ≡ [] → (bank_write b off word).due ≡ []
+  still b e = rw (e) refl
+
 -- the list tells a write
 pub write_told : (old new : Bank) (off word : ℕ) → old.due ≡ [] → new ≡ bank_write old off word
     → new.log ≡ old.log ++ record { write = true; off = off; value = word } ∷ []

@@ -75,7 +75,7 @@ impl<R: Regs + Drop> DevPort<R> {
         &self.regs
     }
 
-    #[tactic(auto, using(crate::proofs::Goes::read_goes_on))]
+    #[tactic(auto, using(crate::proofs::Goes::read_goes_on, crate::proofs::Goes::read_still))]
     #[inline(always)]
     pub(crate) fn read(&mut self, off: u16) -> u32
         requires known { IsRegister off }
@@ -90,7 +90,7 @@ impl<R: Regs + Drop> DevPort<R> {
         self.regs.read(off)
     }
 
-    #[tactic(auto, using(crate::proofs::Goes::write_goes_on))]
+    #[tactic(auto, using(crate::proofs::Goes::write_goes_on, crate::proofs::Goes::write_still))]
     #[inline(always)]
     pub(crate) fn write(&mut self, off: u16, word: u32)
         requires known { IsRegister off }
@@ -105,7 +105,7 @@ impl<R: Regs + Drop> DevPort<R> {
     }
 
     /// The same, and the list of accesses tells it.
-    #[tactic(auto, using(crate::proofs::Goes::write_goes_on, crate::proofs::Goes::write_told))]
+    #[tactic(auto, using(crate::proofs::Goes::write_goes_on, crate::proofs::Goes::write_told, crate::proofs::Goes::write_still))]
     #[inline(always)]
     pub(crate) fn write_listed(&mut self, off: u16, word: u32)
         requires known { IsRegister off }
