@@ -4,7 +4,8 @@ use Rattle.std.specs.Prelude.{◌||◌, ◌&&◌, not, IsTrue}
 use Rattle.device_machine.specs.declared.control.Side.{Side}
 use Rattle.device_machine.specs.declared.control.Side.TheVariants.{Off, Wait, Loaded, Last, Armed, Stall, Finished}
 use Rattle.device_machine.specs.Bus.{Bus}
-use Rattle.device_table.specs.State.{Table, InEnd, OutEnd, rx_depth, out_count}
+use Rattle.dwc2_regs.specs.declared.access.TheConstants.{FS4}
+use Rattle.device_table.specs.State.{Table, InEnd, OutEnd, rx_depth}
 use Rattle.device_table.specs.Write.{setup_lies}
 use Rattle.device_relation.specs.declared.software.Ready.{Ready}
 use Rattle.device_relation.specs.declared.software.Ready.TheVariants as ready
@@ -34,10 +35,10 @@ calls Armed h = never _ refl h
 calls (Finished s) h = never _ refl h
 
 -- the device from there on, with this on endpoint 0
-turned : (t : Table) (s : Software) (m : Bus) (i : InEnd) (o : OutEnd) (r : Ready) (side : Side) → Stands t s m → IsTrue (may_start m.side)
+turned : (t : Table) (s : Software) (m : Bus) (i : InEnd) (o : OutEnd) (r : Ready) (side : Side) → Stands FS4 t s m → IsTrue (may_start m.side)
     → InPart i side → OutPart o side (some_lie m.unserved) (is_seen (some_lie m.unserved) s.heard) m.taken → Pair i.xfrc r side → i.toggle ≡ t.in0.toggle
     → (was_heard s.heard || is_idle side) ≡ true → IsPacket (bytes_of_side side) → is_loaded side ≡ false → is_came side ≡ false → came_entries side ≡ []
-    → Stands (record t { in0 = i; out0 = o }) (record s { side = r; next_address = None }) (record m { side = side })
+    → Stands FS4 (record t { in0 = i; out0 = o }) (record s { side = r; next_address = None }) (record m { side = side })
 turned t s m i o r side st may ip op pair toggle first packet not_loaded none came =
     let c : Calls m.side = calls m.side may in
     let waits = some_lie m.unserved in
@@ -52,7 +53,7 @@ turned t s m i o r side st may ip op pair toggle first packet not_loaded none ca
         packet = packet;
         alone = ap (λ x. waits && x) not_loaded ∙ and_false waits;
       };
-      rx = record { lie = st.rx.lie ∙ ap (λ es. record { left = []; entries = es ++ setups_entries m.unserved; depth = rx_depth out_count }) (c.came ∙ sym came); counts = st.rx.counts; few = st.rx.few; are = st.rx.are };
+      rx = record { lie = st.rx.lie ∙ ap (λ es. record { left = []; entries = es ++ setups_entries m.unserved; depth = rx_depth FS4 }) (c.came ∙ sym came); counts = st.rx.counts; few = st.rx.few; are = st.rx.are };
       pipes = st.pipes;
       rest = st.rest;
       core = record { awake = st.core.awake; reset = st.core.reset; address = st.core.address; endpoints = st.core.endpoints; landed = st.core.landed; asleep = st.core.asleep; next = tt };
@@ -83,7 +84,7 @@ nak_stays true false = refl
 nak_stays false true = refl
 nak_stays false false = refl
 
-untouched : (t : Table) (s : Software) (m : Bus) → Stands t s m → IsTrue (may_start m.side) → is_stalled m.side ≡ false → Calm t t
+untouched : (t : Table) (s : Software) (m : Bus) → Stands FS4 t s m → IsTrue (may_start m.side) → is_stalled m.side ≡ false → Calm t t
 untouched t s m st may e =
     let c : Calls m.side = calls m.side may in
     record {
@@ -100,7 +101,7 @@ untouched t s m st may e =
       out_toggle = refl;
     }
 
-cleared : (t : Table) (s : Software) (m : Bus) → Stands t s m → IsTrue (may_start m.side) → Calm t (unstalled t ready.Stall)
+cleared : (t : Table) (s : Software) (m : Bus) → Stands FS4 t s m → IsTrue (may_start m.side) → Calm t (unstalled t ready.Stall)
 cleared t s m st may =
     let c : Calls m.side = calls m.side may in
     record {
@@ -117,7 +118,7 @@ cleared t s m st may =
       out_toggle = refl;
     }
 
-calmed : (t : Table) (s : Software) (m : Bus) {x : Bool} {r : Ready} {side : Side} → Pair x r side → Stands t s (record m { side = side }) → IsTrue (may_start side) → Calm t (unstalled t r)
+calmed : (t : Table) (s : Software) (m : Bus) {x : Bool} {r : Ready} {side : Side} → Pair x r side → Stands FS4 t s (record m { side = side }) → IsTrue (may_start side) → Calm t (unstalled t r)
 calmed t s m off_off st may = untouched t s (record m { side = Off }) st may refl
 calmed t s m (wait_wait {packet = p} {last = l}) st may = untouched t s (record m { side = Wait p l }) st may refl
 calmed t s m loaded_off st may = untouched t s (record m { side = Off }) st may refl
@@ -135,8 +136,8 @@ calmed t s m armed_came st may = never _ refl may
 
 -- A packet to be sent.
 
-pub start_for : (j : Joint) (p : Port) (packet : List ℕ) (last : Bool) → StandsFor j p → IsTrue (may_start p.bus.side) → p.heard ≡ true → IsPacket packet
-    → StandsFor (run_start j packet last) (started p packet last)
+pub start_for : (j : Joint) (p : Port) (packet : List ℕ) (last : Bool) → StandsFor FS4 j p → IsTrue (may_start p.bus.side) → p.heard ≡ true → IsPacket packet
+    → StandsFor FS4 (run_start j packet last) (started p packet last)
 start_for j p packet last f may hears is =
     let t = j.table in
     let s = j.software in
@@ -144,7 +145,7 @@ start_for j p packet last f may hears is =
     let new = unstalled t s.side in
     let c : Calm t new = calmed t s p.bus st.pair st may in
     record {
-      stands = subst (λ x. Stands x (record s { side = ready.Wait packet last; next_address = None }) (record p.bus { side = Wait packet last })) (sym c.same)
+      stands = subst (λ x. Stands FS4 x (record s { side = ready.Wait packet last; next_address = None }) (record p.bus { side = Wait packet last })) (sym c.same)
           (turned t s p.bus new.in0 new.out0 (ready.Wait packet last) (Wait packet last) st may
           (record { kept = c.in_kept; stall = c.in_stall; enabled = c.in_enabled; ready = never _ refl; holds = c.holds; size = never _ refl })
           (record { kept = c.out_kept; stall = c.out_stall; enabled = c.out_enabled; naks = never _ refl; toggle = λ h. c.out_toggle ∙ st.outs.toggle h; lies = λ h. c.out_nak ∙ st.outs.lies h })
@@ -158,7 +159,7 @@ start_for j p packet last f may hears is =
 
 -- A packet to come.
 
-arm_out : (t : Table) (s : Software) (m : Bus) (new o : OutEnd) → Stands t s m → IsTrue (may_start m.side) → Arms new o (some_lie m.unserved) (was_packet s.heard) → new.toggle ≡ t.out0.toggle
+arm_out : (t : Table) (s : Software) (m : Bus) (new o : OutEnd) → Stands FS4 t s m → IsTrue (may_start m.side) → Arms new o (some_lie m.unserved) (was_packet s.heard) → new.toggle ≡ t.out0.toggle
     → OutPart o Armed (some_lie m.unserved) (is_seen (some_lie m.unserved) s.heard) m.taken
 arm_out t s m new o st may a toggle =
     let waits = some_lie m.unserved in
@@ -172,7 +173,7 @@ arm_out t s m new o st may a toggle =
       lies = λ h. a.naks ∙ ap (λ w. w || (not w && (was_packet s.heard || false))) h;
     }
 
-pub arm_for : (j : Joint) (p : Port) → StandsFor j p → IsTrue (may_start p.bus.side) → p.heard ≡ true → StandsFor (run_arm j) (armed p)
+pub arm_for : (j : Joint) (p : Port) → StandsFor FS4 j p → IsTrue (may_start p.bus.side) → p.heard ≡ true → StandsFor FS4 (run_arm j) (armed p)
 arm_for j p f may hears =
     let t = j.table in
     let s = j.software in
@@ -184,7 +185,7 @@ arm_for j p f may hears =
     let a : Arms new.out0 o (some_lie p.bus.unserved) (was_packet s.heard) = arms new s.heard (some_lie p.bus.unserved) lies (λ h. c.out_nak ∙ st.outs.lies h) in
     let is : out_armed new s.heard ≡ record t { in0 = new.in0; out0 = o } = armed_out0 new s.heard ∙ ap (λ (x : Table). record x { out0 = o }) c.same in
     record {
-      stands = subst (λ x. Stands x (record s { side = ready.Armed; next_address = None }) (record p.bus { side = Armed })) (sym is)
+      stands = subst (λ x. Stands FS4 x (record s { side = ready.Armed; next_address = None }) (record p.bus { side = Armed })) (sym is)
           (turned t s p.bus new.in0 o ready.Armed Armed st may
           (record { kept = c.in_kept; stall = c.in_stall; enabled = c.in_enabled; ready = never _ refl; holds = c.holds; size = never _ refl })
           (arm_out t s p.bus new.out0 o st may a c.out_toggle)
@@ -198,7 +199,7 @@ arm_for j p f may hears =
 
 -- Protocol stall.
 
-pub stall_for : (j : Joint) (p : Port) → StandsFor j p → IsTrue (may_start p.bus.side) → StandsFor (run_stall j) (stalled p)
+pub stall_for : (j : Joint) (p : Port) → StandsFor FS4 j p → IsTrue (may_start p.bus.side) → StandsFor FS4 (run_stall j) (stalled p)
 stall_for j p f may =
     let t = j.table in
     let s = j.software in
@@ -219,7 +220,7 @@ stall_for j p f may =
 
 -- A new address.
 
-pub address_for : (j : Joint) (p : Port) (n : ℕ) → StandsFor j p → n < 128 → StandsFor (run_address j n) (addressed p n)
+pub address_for : (j : Joint) (p : Port) (n : ℕ) → StandsFor FS4 j p → n < 128 → StandsFor FS4 (run_address j n) (addressed p n)
 address_for j p n f h =
     let st = f.stands in
     record {

@@ -1,6 +1,7 @@
 -- All endpoints but endpoint 0 are closed.
 use Rattle.std.proofs.Common.{◌≡◌, ℕ, zero, suc, [], ◌∷◌, refl, ap, sym, ◌∙◌, subst}
 use Rattle.device_machine.specs.Bus.{Bus}
+use Rattle.dwc2_regs.specs.declared.access.TheConstants.{FS4}
 use Rattle.device_table.specs.State.{Table, InEnd, OutEnd}
 use Rattle.device_relation.specs.Software.{Software, Joint}
 use Rattle.device_relation.specs.Relation.{Stands, PipePart}
@@ -12,7 +13,7 @@ use Rattle.device_relation.proofs.Resets.{Three, three}
 abbrev with_ends : Table → (a b c : InEnd) → (d e f : OutEnd) → Table
 with_ends t a b c d e f = record t { ins = a ∷ b ∷ c ∷ []; outs = d ∷ e ∷ f ∷ [] }
 
-closed_pipe : (t : Table) (a b c : InEnd) (d e f : OutEnd) (n : ℕ) → let new = others_closed (with_ends t a b c d e f) in PipePart new.ins new.outs [] n
+closed_pipe : (t : Table) (a b c : InEnd) (d e f : OutEnd) (n : ℕ) → let new = others_closed FS4 (with_ends t a b c d e f) in PipePart new.ins new.outs [] n
 closed_pipe t a b c d e f zero = record { takes = λ n. refl; out_naks = never _ refl; out_stall = refl; sends = refl; in_naks = never _ refl; in_stall = refl }
 closed_pipe t a b c d e f (suc zero) = record { takes = λ n. refl; out_naks = never _ refl; out_stall = refl; sends = refl; in_naks = never _ refl; in_stall = refl }
 closed_pipe t a b c d e f (suc (suc zero)) = record { takes = λ n. refl; out_naks = never _ refl; out_stall = refl; sends = refl; in_naks = never _ refl; in_stall = refl }
@@ -21,8 +22,8 @@ closed_pipe t a b c d e f (suc (suc (suc n))) = record { takes = λ n. refl; out
 pub whole : (t : Table) (ins : Three t.ins) (outs : Three t.outs) → t ≡ with_ends t ins.a ins.b ins.c outs.a outs.b outs.c
 whole t ins outs = ap (λ xs. record t { ins = xs }) ins.is ∙ ap (λ xs. record t { ins = ins.a ∷ ins.b ∷ ins.c ∷ []; outs = xs }) outs.is
 
-close_stands : (t : Table) (s : Software) (m : Bus) (a b c : InEnd) (d e f : OutEnd) → Stands t s m
-    → Stands (others_closed (with_ends t a b c d e f)) (record s { open_ones = [] }) (record m { endpoints = [] })
+close_stands : (t : Table) (s : Software) (m : Bus) (a b c : InEnd) (d e f : OutEnd) → Stands FS4 t s m
+    → Stands FS4 (others_closed FS4 (with_ends t a b c d e f)) (record s { open_ones = [] }) (record m { endpoints = [] })
 close_stands t s m a b c d e f st = record {
   ins = st.ins;
   outs = st.outs;
@@ -34,14 +35,14 @@ close_stands t s m a b c d e f st = record {
   core = record { awake = st.core.awake; reset = st.core.reset; address = st.core.address; endpoints = refl; landed = st.core.landed; asleep = st.core.asleep; next = st.core.next };
 }
 
-pub close_for : (j : Joint) (p : Port) → StandsFor j p → StandsFor (run_close j) (without_endpoints p)
+pub close_for : (j : Joint) (p : Port) → StandsFor FS4 j p → StandsFor FS4 (run_close FS4 j) (without_endpoints p)
 close_for j p f =
     let t = j.table in
     let st = f.stands in
     let ins : Three t.ins = three t.ins st.rest.in_ends in
     let outs : Three t.outs = three t.outs st.rest.out_ends in
     record {
-      stands = subst (λ x. Stands (others_closed x) (record j.software { open_ones = [] }) (record p.bus { endpoints = [] })) (sym (whole t ins outs))
+      stands = subst (λ x. Stands FS4 (others_closed FS4 x) (record j.software { open_ones = [] }) (record p.bus { endpoints = [] })) (sym (whole t ins outs))
           (close_stands t j.software p.bus ins.a ins.b ins.c outs.a outs.b outs.c st);
       heard = f.heard;
       next_address = f.next_address;

@@ -3,6 +3,7 @@ use Rattle.std.proofs.Common.{◌≡◌, ℕ, List, [], ◌∷◌, Bool, true, f
 use Rattle.device_machine.specs.declared.control.Side.{Side}
 use Rattle.device_machine.specs.declared.control.Side.TheVariants.{Off, Wait}
 use Rattle.device_machine.specs.Bus.{Bus}
+use Rattle.dwc2_regs.specs.declared.access.TheConstants.{FS4}
 use Rattle.dwc2_fifo.specs.Rx.{Rx}
 use Rattle.dwc2_fifo.specs.Tx.{Tx}
 use Rattle.device_table.specs.State.{Table}
@@ -54,7 +55,7 @@ side_at t ready.Last = refl
 side_at t ready.Armed = refl
 side_at t ready.Stall = refl
 
-side_is : (t : Table) (s : Software) (m : Bus) → Stands t s m → side_of t s ≡ m.side
+side_is : (t : Table) (s : Software) (m : Bus) → Stands FS4 t s m → side_of t s ≡ m.side
 side_is t s m st =
     let front : packet_in t.rx.entries ≡ came_of m.side = ap (λ (rx : Rx). packet_in rx.entries) st.rx.lie ∙ packet_in-is m.side m.unserved st.side.packet in
     let holds : packet_of t.in0.fifo.packets ≡ loaded_bytes m.side = ap (λ (tx : Tx). packet_of tx.packets) st.ins.holds ∙ packet_of-packets_of (loaded_bytes m.side) in
@@ -77,7 +78,7 @@ bus_eq x y a b c d e f g h =
     ∙ ap (λ v. record x { awake = y.awake; reset = y.reset; address = y.address; endpoints = y.endpoints; unserved = y.unserved; side = y.side; taken = v }) g
     ∙ ap (λ v. record x { awake = y.awake; reset = y.reset; address = y.address; endpoints = y.endpoints; unserved = y.unserved; side = y.side; taken = y.taken; toggle = v }) h
 
-pub determined : (t : Table) (s : Software) (m : Bus) → Stands t s m → abstract (record { table = t; software = s }) ≡ m
+pub determined : (t : Table) (s : Software) (m : Bus) → Stands FS4 t s m → abstract (record { table = t; software = s }) ≡ m
 determined t s m st =
     let setups : setups_in t.rx.entries ≡ m.unserved = ap (λ (rx : Rx). setups_in rx.entries) st.rx.lie ∙ setups_in-is m.side m.unserved st.side.packet st.rx.are in
     let side = side_is t s m st in

@@ -7,6 +7,7 @@ use Rattle.usb_packet.specs.declared.bus.BusEvent.TheVariants as event
 use Rattle.usb_packet.specs.declared.bus.BusAnswer.TheVariants as answers
 use Rattle.device_machine.specs.Bus as bus
 use Rattle.device_machine.specs.Bus.{Bus}
+use Rattle.dwc2_regs.specs.declared.access.TheConstants.{FS4}
 use Rattle.device_table.specs.State.{Table, opened}
 use Rattle.device_table.specs.Bus as table
 use Rattle.device_relation.specs.Software.{Software, Joint, unused}
@@ -17,31 +18,31 @@ use Rattle.device_relation.proofs.SetupEvents.{reset_stands, setup_stands, hears
 use Rattle.device_relation.proofs.OutEvents.{out0_answer, out0_stands, pipe_out_answer, pipe_out_stands}
 use Rattle.device_relation.proofs.InEvents.{in0_answer, in0_stands, pipe_in_answer, pipe_in_stands}
 
-keeps : (j : Joint) (e : BusEvent) → table.bus_answer j.table e ≡ bus.bus_answer (abstract j) e → Stands (table.after_bus j.table e) j.software (bus.bus_after (abstract j) e) → Keeps j e
+keeps : (j : Joint) (e : BusEvent) → table.bus_answer j.table e ≡ bus.bus_answer (abstract j) e → Stands FS4 (table.after_bus j.table e) j.software (bus.bus_after (abstract j) e) → Keeps FS4 j e
 keeps j e answer st =
     let next : abstract (after_event j e) ≡ bus.bus_after (abstract j) e = determined (table.after_bus j.table e) j.software (bus.bus_after (abstract j) e) st in
-    record { answer = answer; next = next; sound = subst (λ m. Stands (table.after_bus j.table e) j.software m) (sym next) st }
+    record { answer = answer; next = next; sound = subst (λ m. Stands FS4 (table.after_bus j.table e) j.software m) (sym next) st }
 
 few_of : (h ok : Bool) (n : ℕ) → (h && (ok && nat_lt n 3)) ≡ true → n < 3
 few_of true true n e = grind (arith, nat_tests)
 few_of true false n e = never false refl e
 few_of false ok n e = never false refl e
 
-setup_by : (t : Table) (s : Software) (m : Bus) (bytes : List ℕ) (b : Bool) → Stands t s m → IsSetup bytes → (b ≡ true → length m.unserved < 3)
-    → Stands (if b then table.after_setup t bytes else t) s (if b then bus.after_setup m bytes else m)
+setup_by : (t : Table) (s : Software) (m : Bus) (bytes : List ℕ) (b : Bool) → Stands FS4 t s m → IsSetup bytes → (b ≡ true → length m.unserved < 3)
+    → Stands FS4 (if b then table.after_setup t bytes else t) s (if b then bus.after_setup m bytes else m)
 setup_by t s m bytes true st h few = setup_stands t s m bytes st h (few refl)
 setup_by t s m bytes false st h few = st
 
-setup_keeps : (j : Joint) (addr : ℕ) (bytes : List ℕ) (ok : Bool) → IsSound j → IsSetup bytes → Keeps j (event.Setup addr bytes ok)
+setup_keeps : (j : Joint) (addr : ℕ) (bytes : List ℕ) (ok : Bool) → IsSound FS4 j → IsSetup bytes → Keeps FS4 j (event.Setup addr bytes ok)
 setup_keeps j addr bytes ok st h =
     let m = abstract j in
     let t = j.table in
     let heard = hears_setup_is t j.software m addr ok st in
     keeps j (event.Setup addr bytes ok) (ap (λ b. if b then answers.Ack else answers.NoAnswer) heard)
-    (subst (λ b. Stands (if b then table.after_setup t bytes else t) j.software (if bus.hears_setup m addr ok then bus.after_setup m bytes else m)) (sym heard)
+    (subst (λ b. Stands FS4 (if b then table.after_setup t bytes else t) j.software (if bus.hears_setup m addr ok then bus.after_setup m bytes else m)) (sym heard)
     (setup_by t j.software m bytes (bus.hears_setup m addr ok) st h (λ e. few_of (bus.hears m addr) ok (length m.unserved) e)))
 
-pub bus_keeps : BusKeeps
+pub bus_keeps : BusKeeps FS4
 bus_keeps j event.Reset st h = keeps j event.Reset refl (reset_stands j.table j.software (abstract j) st)
 bus_keeps j (event.Setup addr bytes ok) st h = setup_keeps j addr bytes ok st h
 bus_keeps j (event.Out addr zero toggle packet ok) st h =
@@ -55,13 +56,13 @@ bus_keeps j (event.In addr (suc n) ok) st h =
 
 -- At the start.
 
-closed_pipe : (n : ℕ) → PipePart opened.ins opened.outs (abstract (record { table = opened; software = unused false })).endpoints n
+closed_pipe : (n : ℕ) → PipePart (opened FS4).ins (opened FS4).outs (abstract (record { table = opened FS4; software = unused false })).endpoints n
 closed_pipe zero = record { takes = λ n. refl; out_naks = never _ refl; out_stall = refl; sends = refl; in_naks = never _ refl; in_stall = refl }
 closed_pipe (suc zero) = record { takes = λ n. refl; out_naks = never _ refl; out_stall = refl; sends = refl; in_naks = never _ refl; in_stall = refl }
 closed_pipe (suc (suc zero)) = record { takes = λ n. refl; out_naks = never _ refl; out_stall = refl; sends = refl; in_naks = never _ refl; in_stall = refl }
 closed_pipe (suc (suc (suc n))) = record { takes = λ n. refl; out_naks = never _ refl; out_stall = refl; sends = refl; in_naks = never _ refl; in_stall = refl }
 
-pub starts : Starts
+pub starts : Starts FS4
 starts = record {
   sound = record {
     ins = record { kept = refl; stall = refl; enabled = refl; ready = never _ refl; holds = refl; size = never _ refl };

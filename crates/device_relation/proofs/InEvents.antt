@@ -11,8 +11,9 @@ use Rattle.device_machine.specs.declared.control.Side.{Side}
 use Rattle.device_machine.specs.declared.control.Side.TheVariants.{Off, Wait, Loaded, Last, Armed, Stall, Finished}
 use Rattle.device_machine.specs.Bus as bus
 use Rattle.device_machine.specs.Bus.{Bus, is_in_for}
+use Rattle.dwc2_regs.specs.declared.access.TheConstants.{FS4}
 use Rattle.dwc2_fifo.specs.Tx.{Tx, first_with, without_first}
-use Rattle.device_table.specs.State.{Table, InEnd, rx_depth, out_count}
+use Rattle.device_table.specs.State.{Table, InEnd, rx_depth}
 use Rattle.device_table.specs.Words.{packet_count, transfer_size, flipped}
 use Rattle.device_table.specs.Write.{setup_lies}
 use Rattle.device_table.specs.Bus as table
@@ -90,7 +91,7 @@ two_tests : (h : Bool) → (h && true) ≡ h
 two_tests true = refl
 two_tests false = refl
 
-outcome_is : (t : Table) (s : Software) (m : Bus) (addr : ℕ) → Stands t s m → in_outcome t addr 0 ≡ outcome_of (bus.hears_in m addr 0) (some_lie m.unserved) m.side
+outcome_is : (t : Table) (s : Software) (m : Bus) (addr : ℕ) → Stands FS4 t s m → in_outcome t addr 0 ≡ outcome_of (bus.hears_in m addr 0) (some_lie m.unserved) m.side
 outcome_is t s m addr st =
     let c = t.in0.control in
     let packet = packet_ready 0 t.in0 in
@@ -120,7 +121,7 @@ loaded_seen waits heard Armed e h = never _ refl h
 loaded_seen waits heard Stall e h = never _ refl h
 loaded_seen waits heard (Finished s) e h = never _ refl h
 
-toggle_is : (t : Table) (s : Software) (m : Bus) → Stands t s m → IsTrue (is_loaded m.side) → t.in0.toggle ≡ m.toggle
+toggle_is : (t : Table) (s : Software) (m : Bus) → Stands FS4 t s m → IsTrue (is_loaded m.side) → t.in0.toggle ≡ m.toggle
 toggle_is t s m st h = sym (st.side.toggle_is ∙ ap (λ x. toggle_of x t.in0.toggle) (loaded_seen (some_lie m.unserved) s.heard m.side st.side.first h))
 
 answers_agree : (heard waits : Bool) (side : Side) (its toggle : Toggle) → (IsTrue (is_loaded side) → its ≡ toggle)
@@ -138,7 +139,7 @@ answers_agree true false (Last p) its toggle h = ap (λ x. answers.Data x p) (h 
 serves_is : (us : List (List ℕ)) → not (some_lie us) ≡ bus.is_empty us
 serves_is us = not_not (bus.is_empty us)
 
-pub in0_answer : (t : Table) (s : Software) (m : Bus) (addr : ℕ) (ok : Bool) → Stands t s m
+pub in0_answer : (t : Table) (s : Software) (m : Bus) (addr : ℕ) (ok : Bool) → Stands FS4 t s m
     → table.bus_answer t (event.In addr 0 ok) ≡ bus.bus_answer m (event.In addr 0 ok)
 in0_answer t s m addr ok st =
     ap (table.in_answer t.in0.toggle) (outcome_is t s m addr st)
@@ -213,8 +214,8 @@ flipped_is : (toggle : Toggle) (seen : Bool) (its : Toggle) → seen ≡ true �
 flipped_is D0 seen its e k = rw (e, k) refl
 flipped_is D1 seen its e k = rw (e, k) refl
 
-pub sent_stands : (t : Table) (s : Software) (m : Bus) → Stands t s m → IsTrue (is_loaded m.side)
-    → Stands (table.after_in t 0 true (sends (loaded_bytes m.side))) s (record m { side = sent_side m.side; toggle = bus.flipped m.toggle })
+pub sent_stands : (t : Table) (s : Software) (m : Bus) → Stands FS4 t s m → IsTrue (is_loaded m.side)
+    → Stands FS4 (table.after_in t 0 true (sends (loaded_bytes m.side))) s (record m { side = sent_side m.side; toggle = bus.flipped m.toggle })
 sent_stands t s m st h =
     let r : Sends m.side = sends_side m.side h in
     let p : IsPacket (loaded_bytes m.side) = loaded_packet m.side st.side.packet in
@@ -238,7 +239,7 @@ sent_stands t s m st h =
         packet = subst IsPacket (sym r.none) no_packet;
         alone = ap (λ x. some_lie m.unserved && x) r.loaded ∙ and_false _;
       };
-      rx = record { lie = st.rx.lie ∙ ap (λ es. record { left = []; entries = es ++ setups_entries m.unserved; depth = rx_depth out_count }) (sym r.came); counts = st.rx.counts; few = st.rx.few; are = st.rx.are };
+      rx = record { lie = st.rx.lie ∙ ap (λ es. record { left = []; entries = es ++ setups_entries m.unserved; depth = rx_depth FS4 }) (sym r.came); counts = st.rx.counts; few = st.rx.few; are = st.rx.are };
       pipes = st.pipes;
       rest = st.rest;
       core = record { awake = st.core.awake; reset = st.core.reset; address = st.core.address; endpoints = st.core.endpoints; landed = st.core.landed; asleep = st.core.asleep; next = st.core.next };
@@ -284,24 +285,24 @@ outcome_elim P true false true loaded bytes u n s l = s
 outcome_elim P true false false true bytes u n s l = l refl
 outcome_elim P true false false false bytes u n s l = n
 
-by_ack : (t : Table) (s : Software) (m : Bus) (ok : Bool) → Stands t s m → IsTrue (is_loaded m.side)
-    → Stands (table.after_in t 0 ok (sends (loaded_bytes m.side))) s (after_by (sends (loaded_bytes m.side)) ok (sent_bus m) m)
+by_ack : (t : Table) (s : Software) (m : Bus) (ok : Bool) → Stands FS4 t s m → IsTrue (is_loaded m.side)
+    → Stands FS4 (table.after_in t 0 ok (sends (loaded_bytes m.side))) s (after_by (sends (loaded_bytes m.side)) ok (sent_bus m) m)
 unfolding after_by
 by_ack t s m true st h = sent_stands t s m st h
 by_ack t s m false st h = st
 
-pub in0_stands : (t : Table) (s : Software) (m : Bus) (addr : ℕ) (ok : Bool) → Stands t s m
-    → Stands (table.after_bus t (event.In addr 0 ok)) s (bus.bus_after m (event.In addr 0 ok))
+pub in0_stands : (t : Table) (s : Software) (m : Bus) (addr : ℕ) (ok : Bool) → Stands FS4 t s m
+    → Stands FS4 (table.after_bus t (event.In addr 0 ok)) s (bus.bus_after m (event.In addr 0 ok))
 unfolding after_by
 in0_stands t s m addr ok st =
     let o = outcome_of (bus.hears_in m addr 0) (some_lie m.unserved) m.side in
-    let P : InOutcome → Type 0 = λ o. Stands (table.after_in t 0 ok o) s (after_by o ok (sent_bus m) m) in
+    let P : InOutcome → Type 0 = λ o. Stands FS4 (table.after_in t 0 ok o) s (after_by o ok (sent_bus m) m) in
     let all : P o = outcome_elim P (bus.hears_in m addr 0) (some_lie m.unserved) (is_stalled m.side) (is_loaded m.side) (loaded_bytes m.side) st st st (by_ack t s m ok st) in
     let next : after_by o ok (sent_bus m) m ≡ bus.bus_after m (event.In addr 0 ok) =
     nexts_agree (bus.hears_in m addr 0) (some_lie m.unserved) ok m.side m
     ∙ ap (λ x. if bus.hears_in m addr 0 && (ok && x) then bus.after_in m m.side else m) (serves_is m.unserved) in
-    subst (λ x. Stands (table.after_bus t (event.In addr 0 ok)) s x) next
-    (subst (λ x. Stands (table.after_in t 0 ok x) s (after_by o ok (sent_bus m) m)) (sym (outcome_is t s m addr st)) all)
+    subst (λ x. Stands FS4 (table.after_bus t (event.In addr 0 ok)) s x) next
+    (subst (λ x. Stands FS4 (table.after_in t 0 ok x) s (after_by o ok (sent_bus m) m)) (sym (outcome_is t s m addr st)) all)
 
 -- A token on another endpoint.
 
@@ -319,7 +320,7 @@ second : (a b : Bool) → (a && b) ≡ true → b ≡ true
 second true b h = h
 second false b h = never false refl h
 
-pipe_in_is : (t : Table) (s : Software) (m : Bus) (addr n : ℕ) → Stands t s m → in_outcome t addr (suc n) ≡ naks_or_unheard (bus.hears_in m addr (suc n))
+pipe_in_is : (t : Table) (s : Software) (m : Bus) (addr n : ℕ) → Stands FS4 t s m → in_outcome t addr (suc n) ≡ naks_or_unheard (bus.hears_in m addr (suc n))
 pipe_in_is t s m addr n st =
     let p : PipePart t.ins t.outs m.endpoints n = st.pipes n in
     let end = in_at t.ins n in
@@ -349,19 +350,19 @@ stays true true x m = refl
 stays true false x m = refl
 stays false ok x m = refl
 
-pub pipe_in_answer : (t : Table) (s : Software) (m : Bus) (addr n : ℕ) (ok : Bool) → Stands t s m
+pub pipe_in_answer : (t : Table) (s : Software) (m : Bus) (addr n : ℕ) (ok : Bool) → Stands FS4 t s m
     → table.bus_answer t (event.In addr (suc n) ok) ≡ bus.bus_answer m (event.In addr (suc n) ok)
 pipe_in_answer t s m addr n ok st =
     ap (table.in_answer (in_at t.ins n).toggle) (pipe_in_is t s m addr n st) ∙ naks_answer _ _
     ∙ ap (λ x. if bus.hears_in m addr (suc n) then (if x && bus.is_empty m.unserved then bus.in_answer m.side m.toggle else answers.Nak) else answers.NoAnswer) (sym (not_zero n))
 
-pub pipe_in_stands : (t : Table) (s : Software) (m : Bus) (addr n : ℕ) (ok : Bool) → Stands t s m
-    → Stands (table.after_bus t (event.In addr (suc n) ok)) s (bus.bus_after m (event.In addr (suc n) ok))
+pub pipe_in_stands : (t : Table) (s : Software) (m : Bus) (addr n : ℕ) (ok : Bool) → Stands FS4 t s m
+    → Stands FS4 (table.after_bus t (event.In addr (suc n) ok)) s (bus.bus_after m (event.In addr (suc n) ok))
 pipe_in_stands t s m addr n ok st =
     let same : t ≡ table.after_bus t (event.In addr (suc n) ok) =
     sym (ap (table.after_in t (suc n) ok) (pipe_in_is t s m addr n st) ∙ naks_after t (suc n) ok _) in
     let next : m ≡ bus.bus_after m (event.In addr (suc n) ok) =
     stays (bus.hears_in m addr (suc n)) ok (bus.after_in m m.side) m
     ∙ ap (λ x. if bus.hears_in m addr (suc n) && (ok && (x && bus.is_empty m.unserved)) then bus.after_in m m.side else m) (sym (not_zero n)) in
-    subst (λ x. Stands (table.after_bus t (event.In addr (suc n) ok)) s x) next
-    (subst (λ x. Stands x s m) same st)
+    subst (λ x. Stands FS4 (table.after_bus t (event.In addr (suc n) ok)) s x) next
+    (subst (λ x. Stands FS4 x s m) same st)

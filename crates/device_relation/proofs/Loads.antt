@@ -4,6 +4,7 @@ use Rattle.std.specs.Prelude.{◌||◌, ◌&&◌, not, IsTrue}
 use Rattle.device_machine.specs.declared.control.Side.{Side}
 use Rattle.device_machine.specs.declared.control.Side.TheVariants.{Wait, Loaded, Last}
 use Rattle.device_machine.specs.Bus.{Bus, loaded}
+use Rattle.dwc2_regs.specs.declared.access.TheConstants.{FS4}
 use Rattle.dwc2_regs.specs.Register.{dieptsiz, diepctl, diepint}
 use Rattle.dwc2_fifo.specs.Words.{words_of}
 use Rattle.dwc2_fifo.specs.Rx.{Rx}
@@ -66,11 +67,11 @@ nothing_lies t us e h = ap (λ (rx : Rx). setup_in rx.entries) h ∙ ap (λ vs. 
 
 -- a packet that isn't the last
 
-pub loads : (t : Table) (s : Software) (m : Bus) (packet : List ℕ) (last : Bool) → Stands t s (record m { side = Wait packet last }) → m.unserved ≡ []
-    → Stands (packet_loaded t packet) (record s { side = ready.Loaded }) (record m { side = Loaded packet })
+pub loads : (t : Table) (s : Software) (m : Bus) (packet : List ℕ) (last : Bool) → Stands FS4 t s (record m { side = Wait packet last }) → m.unserved ≡ []
+    → Stands FS4 (packet_loaded t packet) (record s { side = ready.Loaded }) (record m { side = Loaded packet })
 unfolding sized finished written
 loads t s m packet last st none =
-    subst (λ x. Stands x (record s { side = ready.Loaded }) (record m { side = Loaded packet })) (loaded_is t packet st.side.packet st.ins.holds)
+    subst (λ x. Stands FS4 x (record s { side = ready.Loaded }) (record m { side = Loaded packet })) (loaded_is t packet st.side.packet st.ins.holds)
     (record {
       ins = record {
         kept = refl;
@@ -134,8 +135,8 @@ out_part t s m old new side packet a o none taken = record {
   lies = λ h. never _ (ap some_lie none) h;
 }
 
-arms_last : (t : Table) (s : Software) (m : Bus) (packet : List ℕ) → Stands t s (record m { side = Loaded packet }) → t.in0.xfrc ≡ false → m.unserved ≡ [] → (new : OutEnd) → Arms t.out0 new false (was_packet s.heard)
-    → Stands (record t { out0 = new }) (record s { side = ready.Last }) (record m { side = Last packet })
+arms_last : (t : Table) (s : Software) (m : Bus) (packet : List ℕ) → Stands FS4 t s (record m { side = Loaded packet }) → t.in0.xfrc ≡ false → m.unserved ≡ [] → (new : OutEnd) → Arms t.out0 new false (was_packet s.heard)
+    → Stands FS4 (record t { out0 = new }) (record s { side = ready.Last }) (record m { side = Last packet })
 arms_last t s m packet st x none new a = record {
   ins = record { kept = st.ins.kept; stall = st.ins.stall; enabled = st.ins.enabled; ready = st.ins.ready; holds = st.ins.holds; size = st.ins.size };
   outs = out_part t s m t.out0 new (Loaded packet) packet a st.outs none st.side.taken_is;
@@ -147,15 +148,15 @@ arms_last t s m packet st x none new a = record {
   core = record { awake = st.core.awake; reset = st.core.reset; address = st.core.address; endpoints = st.core.endpoints; landed = st.core.landed; asleep = st.core.asleep; next = st.core.next };
 }
 
-pub loads_last : (t : Table) (s : Software) (m : Bus) (packet : List ℕ) (last : Bool) → Stands t s (record m { side = Wait packet last }) → m.unserved ≡ []
-    → Stands (out_armed (packet_loaded t packet) s.heard) (record s { side = ready.Last }) (record m { side = Last packet })
+pub loads_last : (t : Table) (s : Software) (m : Bus) (packet : List ℕ) (last : Bool) → Stands FS4 t s (record m { side = Wait packet last }) → m.unserved ≡ []
+    → Stands FS4 (out_armed (packet_loaded t packet) s.heard) (record s { side = ready.Last }) (record m { side = Last packet })
 unfolding sized finished written
 loads_last t s m packet last st none =
     let l = packet_loaded t packet in
-    let done : Stands l (record s { side = ready.Loaded }) (record m { side = Loaded packet }) = loads t s m packet last st none in
+    let done : Stands FS4 l (record s { side = ready.Loaded }) (record m { side = Loaded packet }) = loads t s m packet last st none in
     let x : l.in0.xfrc ≡ false = ap (λ (y : Table). y.in0.xfrc) (sym (loaded_is t packet st.side.packet st.ins.holds)) ∙ no_more t.in0.xfrc in
     let lies : setup_lies l ≡ false = nothing_lies l m.unserved none done.rx.lie in
-    subst (λ y. Stands y (record s { side = ready.Last }) (record m { side = Last packet })) (sym (armed_out0 l s.heard))
+    subst (λ y. Stands FS4 y (record s { side = ready.Last }) (record m { side = Last packet })) (sym (armed_out0 l s.heard))
     (arms_last l (record s { side = ready.Loaded }) m packet done x none (out_armed l s.heard).out0 (arms l s.heard false lies (λ h. never _ refl h)))
 
 -- what a run loads
@@ -164,8 +165,8 @@ with_loaded : Port → Side → Port
 with_loaded p side = record p { bus = record p.bus { side = loaded side } }
 
 loads_for : (t : Table) (s : Software) (p : Port) {x : Bool} {r : Ready} {side : Side} → Pair x r side
-    → StandsFor (record { table = t; software = record s { side = r } }) (record p { bus = record p.bus { side = side } }) → p.bus.unserved ≡ []
-    → StandsFor (loaded_from (record { table = t; software = record s { side = r } }) r) (with_loaded p side)
+    → StandsFor FS4 (record { table = t; software = record s { side = r } }) (record p { bus = record p.bus { side = side } }) → p.bus.unserved ≡ []
+    → StandsFor FS4 (loaded_from (record { table = t; software = record s { side = r } }) r) (with_loaded p side)
 unfolding with_loaded
 loads_for t s p (wait_wait {packet = packet} {last = true}) f none = record {
   stands = loads_last t (record s { side = ready.Wait packet true }) p.bus packet true f.stands none;
@@ -197,6 +198,6 @@ loads_for t s p last_off f none = f
 loads_for t s p armed_off f none = f
 loads_for t s p stall_off f none = f
 
-pub waiting_for : (j : Joint) (p : Port) → StandsFor j p → p.bus.unserved ≡ [] → StandsFor (waiting_loaded j) (record p { bus = record p.bus { side = loaded p.bus.side } })
+pub waiting_for : (j : Joint) (p : Port) → StandsFor FS4 j p → p.bus.unserved ≡ [] → StandsFor FS4 (waiting_loaded j) (record p { bus = record p.bus { side = loaded p.bus.side } })
 unfolding with_loaded
 waiting_for j p f none = loads_for j.table j.software p f.stands.pair f none

@@ -8,6 +8,7 @@ use Rattle.usb_descriptor.specs.declared.endpoint.EpKind.{EpKind}
 use Rattle.usb_descriptor.specs.declared.endpoint.EpKind.TheVariants.{Bulk, Interrupt}
 use Rattle.usb_descriptor.specs.declared.endpoint.Endpoint.{Endpoint}
 use Rattle.device_machine.specs.Bus.{is_out_for, is_in_for}
+use Rattle.dwc2_regs.specs.declared.access.TheConstants.{FS4}
 use Rattle.dwc2_regs.specs.declared.bits.Field.{Field}
 use Rattle.dwc2_regs.specs.declared.TheConstants.{DIEPCTL_SIZE, DIEPCTL_USBAEP, DIEPCTL_NAKSTS, DIEPCTL_STALL, DIEPCTL_CNAK, DIEPCTL_SNAK, DIEPCTL_SD0PID, DIEPCTL_EPDIS, DIEPCTL_EPENA}
 use Rattle.dwc2_regs.specs.Field.{field_of, with_field}
@@ -250,8 +251,8 @@ type_fits e = by e.kind
     by Bulk = omega arith
     by Interrupt = omega arith
 
-pub open_out_for : (j : Joint) (p : Port) (e : Endpoint) (n : ℕ) → StandsFor j p → e.addr ≡ suc n → n < 3 → 1 ≤ e.size → e.size ≤ 64 → has_address (suc n) p.bus.endpoints ≡ false
-    → StandsFor (record { table = after_write j.table (doepctl (suc n)) (open_word e 0); software = record j.software { open_ones = j.software.open_ones ++ e ∷ [] } }) (with_endpoint p e)
+pub open_out_for : (j : Joint) (p : Port) (e : Endpoint) (n : ℕ) → StandsFor FS4 j p → e.addr ≡ suc n → n < 3 → 1 ≤ e.size → e.size ≤ 64 → has_address (suc n) p.bus.endpoints ≡ false
+    → StandsFor FS4 (record { table = after_write j.table (doepctl (suc n)) (open_word e 0); software = record j.software { open_ones = j.software.open_ones ++ e ∷ [] } }) (with_endpoint p e)
 open_out_for j p e n f h k some most none =
     let st = f.stands in
     record {
@@ -273,8 +274,8 @@ open_out_for j p e n f h k some most none =
       request = f.request;
     }
 
-pub open_in_for : (j : Joint) (p : Port) (e : Endpoint) (n : ℕ) → StandsFor j p → e.addr ≡ 128 + suc n → n < 3 → 1 ≤ e.size → e.size ≤ 64 → has_address (128 + suc n) p.bus.endpoints ≡ false
-    → StandsFor (record { table = after_write j.table (diepctl (suc n)) (open_word e (suc n)); software = record j.software { open_ones = j.software.open_ones ++ e ∷ [] } }) (with_endpoint p e)
+pub open_in_for : (j : Joint) (p : Port) (e : Endpoint) (n : ℕ) → StandsFor FS4 j p → e.addr ≡ 128 + suc n → n < 3 → 1 ≤ e.size → e.size ≤ 64 → has_address (128 + suc n) p.bus.endpoints ≡ false
+    → StandsFor FS4 (record { table = after_write j.table (diepctl (suc n)) (open_word e (suc n)); software = record j.software { open_ones = j.software.open_ones ++ e ∷ [] } }) (with_endpoint p e)
 open_in_for j p e n f h k some most none =
     let st = f.stands in
     record {

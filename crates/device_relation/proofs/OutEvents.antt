@@ -12,10 +12,11 @@ use Rattle.device_machine.specs.declared.control.Side.{Side}
 use Rattle.device_machine.specs.declared.control.Side.TheVariants.{Off, Wait, Loaded, Last, Armed, Stall, Finished}
 use Rattle.device_machine.specs.Bus as bus
 use Rattle.device_machine.specs.Bus.{Bus, takes, is_out_for}
+use Rattle.dwc2_regs.specs.declared.access.TheConstants.{FS4}
 use Rattle.dwc2_fifo.specs.Words.{word_count}
 use Rattle.dwc2_fifo.specs.Rx.{Rx, room_of}
 use Rattle.dwc2_fifo.specs.Tx.{Tx, empty_of as tx_empty}
-use Rattle.device_table.specs.State.{Table, rx_depth, out_count}
+use Rattle.device_table.specs.State.{Table, rx_depth}
 use Rattle.device_table.specs.Words.{same_toggle, packet_size}
 use Rattle.device_table.specs.Write.{setup_lies, setup_in}
 use Rattle.device_table.specs.Bus as table
@@ -197,9 +198,9 @@ land_entries side us bytes e k =
     ∙ ap (λ vs. setups_entries vs ++ out_entries 0 D1 bytes) k
     ∙ ap (λ vs. out_entries 0 D1 bytes ++ setups_entries vs) (sym k)
 
-pub land_stands : (t : Table) (s : Software) (m : Bus) (bytes : List ℕ) → Stands t s m → IsPacket bytes
+pub land_stands : (t : Table) (s : Software) (m : Bus) (bytes : List ℕ) → Stands FS4 t s m → IsPacket bytes
     → m.awake ≡ true → some_lie m.unserved ≡ false → IsTrue (is_armed m.side)
-    → Stands (table.after_landing t 0 D1 bytes) s (record m { side = Finished (Came bytes); taken = true })
+    → Stands FS4 (table.after_landing t 0 D1 bytes) s (record m { side = Finished (Came bytes); taken = true })
 land_stands t s m bytes st h awake lie ar =
     let r : Free m.side = armed_side m.side ar in
     record {
@@ -214,7 +215,7 @@ land_stands t s m bytes st h awake lie ar =
         alone = and_false _;
       };
       rx = record {
-        lie = ap (λ (rx : Rx). record rx { entries = rx.entries ++ out_entries 0 D1 bytes }) st.rx.lie ∙ ap (λ es. record { left = []; entries = es; depth = rx_depth out_count }) (land_entries m.side m.unserved bytes r.came (none_lie m.unserved lie));
+        lie = ap (λ (rx : Rx). record rx { entries = rx.entries ++ out_entries 0 D1 bytes }) st.rx.lie ∙ ap (λ es. record { left = []; entries = es; depth = rx_depth FS4 }) (land_entries m.side m.unserved bytes r.came (none_lie m.unserved lie));
         counts = st.rx.counts;
         few = st.rx.few;
         are = st.rx.are;
@@ -248,7 +249,7 @@ small n h = grind (arith, nat_tests)
 roomy : (n : ℕ) → n ≤ 64 → nat_le (2 + word_count n) 84 ≡ true
 roomy n h = grind (arith, nat_tests)
 
-heard_is : (t : Table) (s : Software) (m : Bus) (addr : ℕ) (bytes : List ℕ) (ok : Bool) → Stands t s m → IsPacket bytes
+heard_is : (t : Table) (s : Software) (m : Bus) (addr : ℕ) (bytes : List ℕ) (ok : Bool) → Stands FS4 t s m → IsPacket bytes
     → hears_out t addr 0 bytes ok ≡ (m.awake && ((addr == m.address) && ok))
 heard_is t s m addr bytes ok st h =
     let fits : nat_le (length bytes) (packet_size 0 t.out0.control) ≡ true =
@@ -256,12 +257,12 @@ heard_is t s m addr bytes ok st h =
     ap (λ x. x && ok && true && nat_le (length bytes) (packet_size 0 t.out0.control)) (hears_is t s m addr st.core)
     ∙ all_tests m.awake (addr == m.address) ok _ fits
 
-has_room_is : (t : Table) (s : Software) (m : Bus) (bytes : List ℕ) → Stands t s m → IsPacket bytes → some_lie m.unserved ≡ false → IsTrue (is_armed m.side)
+has_room_is : (t : Table) (s : Software) (m : Bus) (bytes : List ℕ) → Stands FS4 t s m → IsPacket bytes → some_lie m.unserved ≡ false → IsTrue (is_armed m.side)
     → has_room t bytes ≡ true
 has_room_is t s m bytes st h lie ar =
     let e : came_entries m.side ++ setups_entries m.unserved ≡ [] =
     ap (λ es. es ++ setups_entries m.unserved) (armed_side m.side ar).came ∙ ap setups_entries (none_lie m.unserved lie) in
-    ap (λ (rx : Rx). nat_le (2 + word_count (length bytes)) (room_of rx)) (st.rx.lie ∙ ap (λ es. record { left = []; entries = es; depth = rx_depth out_count }) e)
+    ap (λ (rx : Rx). nat_le (2 + word_count (length bytes)) (room_of rx)) (st.rx.lie ∙ ap (λ es. record { left = []; entries = es; depth = rx_depth FS4 }) e)
     ∙ roomy (length bytes) h.fits
 
 or_false : (b i : Bool) → i ≡ false → (b || i) ≡ true → IsTrue b
@@ -271,10 +272,10 @@ or_false false i e h = sym e ∙ h
 seen_now : (waits heard taken : Bool) → waits ≡ false → taken ≡ false → IsTrue heard → IsTrue ((waits || heard) && not taken)
 seen_now waits heard taken e k h = rw (e, k, h) refl
 
-pub setup_lies_is : (t : Table) (s : Software) (m : Bus) → Stands t s m → setup_lies t ≡ some_lie m.unserved
+pub setup_lies_is : (t : Table) (s : Software) (m : Bus) → Stands FS4 t s m → setup_lies t ≡ some_lie m.unserved
 setup_lies_is t s m st = ap (λ (rx : Rx). setup_in rx.entries) st.rx.lie ∙ setup_in-is m.side m.unserved st.side.packet
 
-outcome_is : (t : Table) (s : Software) (m : Bus) (addr : ℕ) (toggle : Toggle) (bytes : List ℕ) (ok : Bool) → Stands t s m → IsPacket bytes
+outcome_is : (t : Table) (s : Software) (m : Bus) (addr : ℕ) (toggle : Toggle) (bytes : List ℕ) (ok : Bool) → Stands FS4 t s m → IsPacket bytes
     → out_outcome t addr 0 toggle bytes ok ≡ outcome_of (m.awake && ((addr == m.address) && ok)) (some_lie m.unserved) (is_stalled m.side) m.taken (is_armed m.side) toggle
 outcome_is t s m addr toggle bytes ok st h =
     let c = t.out0.control in
@@ -301,7 +302,7 @@ both_true false b e = e
 serves_is : (us : List (List ℕ)) → bus.is_empty us ≡ not (some_lie us)
 serves_is us = sym (not_not (bus.is_empty us))
 
-pub out0_answer : (t : Table) (s : Software) (m : Bus) (addr : ℕ) (toggle : Toggle) (bytes : List ℕ) (ok : Bool) → Stands t s m → IsPacket bytes
+pub out0_answer : (t : Table) (s : Software) (m : Bus) (addr : ℕ) (toggle : Toggle) (bytes : List ℕ) (ok : Bool) → Stands FS4 t s m → IsPacket bytes
     → table.bus_answer t (event.Out addr 0 toggle bytes ok) ≡ bus.bus_answer m (event.Out addr 0 toggle bytes ok)
 out0_answer t s m addr toggle bytes ok st h =
     ap table.out_answer (outcome_is t s m addr toggle bytes ok st h)
@@ -318,17 +319,17 @@ out0_next m addr toggle bytes ok =
     ∙ ap (λ x. if x && not (some_lie m.unserved) then after else m) (sym (three_tests m.awake (addr == m.address) ok))
     ∙ ap (λ x. if bus.hears_out m addr 0 bytes ok && x then after else m) (sym (serves_is m.unserved))
 
-pub out0_stands : (t : Table) (s : Software) (m : Bus) (addr : ℕ) (toggle : Toggle) (bytes : List ℕ) (ok : Bool) → Stands t s m → IsPacket bytes
-    → Stands (table.after_bus t (event.Out addr 0 toggle bytes ok)) s (bus.bus_after m (event.Out addr 0 toggle bytes ok))
+pub out0_stands : (t : Table) (s : Software) (m : Bus) (addr : ℕ) (toggle : Toggle) (bytes : List ℕ) (ok : Bool) → Stands FS4 t s m → IsPacket bytes
+    → Stands FS4 (table.after_bus t (event.Out addr 0 toggle bytes ok)) s (bus.bus_after m (event.Out addr 0 toggle bytes ok))
 out0_stands t s m addr toggle bytes ok st h =
     let X : Bus = record m { side = Finished (Came bytes); taken = true } in
-    let P : OutOutcome → Type 0 = λ o. Stands (table.after_out t 0 toggle bytes o) s (after_by o X m) in
+    let P : OutOutcome → Type 0 = λ o. Stands FS4 (table.after_out t 0 toggle bytes o) s (after_by o X m) in
     let heard = m.awake && ((addr == m.address) && ok) in
     let all : P (outcome_of heard (some_lie m.unserved) (is_stalled m.side) m.taken (is_armed m.side) toggle) =
     outcome_elim P heard (some_lie m.unserved) (is_stalled m.side) m.taken (is_armed m.side) toggle st st st st
-    (λ hears lie none ar is. subst (λ x. Stands (table.after_landing t 0 x bytes) s X) (sym is) (land_stands t s m bytes st h (both_true m.awake _ hears) lie ar)) in
-    subst (λ x. Stands (table.after_out t 0 toggle bytes (out_outcome t addr 0 toggle bytes ok)) s x) (out0_next m addr toggle bytes ok)
-    (subst (λ o. Stands (table.after_out t 0 toggle bytes o) s (after_by (outcome_of heard (some_lie m.unserved) (is_stalled m.side) m.taken (is_armed m.side) toggle) X m)) (sym (outcome_is t s m addr toggle bytes ok st h)) all)
+    (λ hears lie none ar is. subst (λ x. Stands FS4 (table.after_landing t 0 x bytes) s X) (sym is) (land_stands t s m bytes st h (both_true m.awake _ hears) lie ar)) in
+    subst (λ x. Stands FS4 (table.after_out t 0 toggle bytes (out_outcome t addr 0 toggle bytes ok)) s x) (out0_next m addr toggle bytes ok)
+    (subst (λ o. Stands FS4 (table.after_out t 0 toggle bytes o) s (after_by (outcome_of heard (some_lie m.unserved) (is_stalled m.side) m.taken (is_armed m.side) toggle) X m)) (sym (outcome_is t s m addr toggle bytes ok st h)) all)
 
 -- A packet on another endpoint.
 
@@ -347,7 +348,7 @@ four false ok used fits takes e = refl
 four true false used fits takes e = refl
 four true true used fits takes e = e
 
-pipe_out_is : (t : Table) (s : Software) (m : Bus) (addr n : ℕ) (toggle : Toggle) (bytes : List ℕ) (ok : Bool) → Stands t s m
+pipe_out_is : (t : Table) (s : Software) (m : Bus) (addr n : ℕ) (toggle : Toggle) (bytes : List ℕ) (ok : Bool) → Stands FS4 t s m
     → out_outcome t addr (suc n) toggle bytes ok ≡ naks_or_unheard (bus.hears_out m addr (suc n) bytes ok)
 pipe_out_is t s m addr n toggle bytes ok st =
     let p : PipePart t.ins t.outs m.endpoints n = st.pipes n in
@@ -383,19 +384,19 @@ stays : (h : Bool) (x m : Bus) → m ≡ (if h && false then x else m)
 stays true x m = refl
 stays false x m = refl
 
-pub pipe_out_answer : (t : Table) (s : Software) (m : Bus) (addr n : ℕ) (toggle : Toggle) (bytes : List ℕ) (ok : Bool) → Stands t s m
+pub pipe_out_answer : (t : Table) (s : Software) (m : Bus) (addr n : ℕ) (toggle : Toggle) (bytes : List ℕ) (ok : Bool) → Stands FS4 t s m
     → table.bus_answer t (event.Out addr (suc n) toggle bytes ok) ≡ bus.bus_answer m (event.Out addr (suc n) toggle bytes ok)
 pipe_out_answer t s m addr n toggle bytes ok st =
     ap table.out_answer (pipe_out_is t s m addr n toggle bytes ok st) ∙ naks_answer _
     ∙ ap (λ x. if bus.hears_out m addr (suc n) bytes ok then (if x && bus.is_empty m.unserved then bus.out_answer m.side m.taken toggle else answers.Nak) else answers.NoAnswer) (sym (not_zero n))
 
-pub pipe_out_stands : (t : Table) (s : Software) (m : Bus) (addr n : ℕ) (toggle : Toggle) (bytes : List ℕ) (ok : Bool) → Stands t s m
-    → Stands (table.after_bus t (event.Out addr (suc n) toggle bytes ok)) s (bus.bus_after m (event.Out addr (suc n) toggle bytes ok))
+pub pipe_out_stands : (t : Table) (s : Software) (m : Bus) (addr n : ℕ) (toggle : Toggle) (bytes : List ℕ) (ok : Bool) → Stands FS4 t s m
+    → Stands FS4 (table.after_bus t (event.Out addr (suc n) toggle bytes ok)) s (bus.bus_after m (event.Out addr (suc n) toggle bytes ok))
 pipe_out_stands t s m addr n toggle bytes ok st =
     let same : t ≡ table.after_bus t (event.Out addr (suc n) toggle bytes ok) =
     sym (ap (table.after_out t (suc n) toggle bytes) (pipe_out_is t s m addr n toggle bytes ok st) ∙ naks_after t (suc n) toggle bytes _) in
     let next : m ≡ bus.bus_after m (event.Out addr (suc n) toggle bytes ok) =
     stays (bus.hears_out m addr (suc n) bytes ok) (bus.after_out m toggle bytes) m
     ∙ ap (λ x. if bus.hears_out m addr (suc n) bytes ok && (x && bus.is_empty m.unserved) then bus.after_out m toggle bytes else m) (sym (not_zero n)) in
-    subst (λ x. Stands (table.after_bus t (event.Out addr (suc n) toggle bytes ok)) s x) next
-    (subst (λ x. Stands x s m) same st)
+    subst (λ x. Stands FS4 (table.after_bus t (event.Out addr (suc n) toggle bytes ok)) s x) next
+    (subst (λ x. Stands FS4 x s m) same st)

@@ -4,11 +4,12 @@ use Rattle.std.specs.Prelude.{◌==◌, if◌then◌else◌, slice_index}
 use Rattle.std.proofs.lemmas.Bool.Decides.{nat_tests}
 use Rattle.usb_packet.specs.declared.bus.Toggle.TheVariants.{D1}
 use Rattle.device_machine.specs.declared.control.Stage.TheVariants.{Came}
+use Rattle.dwc2_regs.specs.declared.access.TheConstants.{FS4}
 use Rattle.dwc2_regs.specs.Register.{diepctl, doepctl, doepint}
 use Rattle.dwc2_fifo.specs.Words.{word_count, words_of, bytes_in}
 use Rattle.dwc2_fifo.specs.Rx.{Entry}
 use Rattle.dwc2_fifo.proofs.WordsLemmas.{length-words_of, bytes_in-words_of}
-use Rattle.device_table.specs.State.{Table, rx_depth, out_count, with_out, out_end}
+use Rattle.device_table.specs.State.{Table, rx_depth, with_out, out_end}
 use Rattle.device_table.specs.Words.{status_word, kind_of, number_of}
 use Rattle.device_table.specs.Write.{after_write}
 use Rattle.device_table.specs.Bus.{out_entries, setup_entries}
@@ -21,7 +22,7 @@ use Rattle.device_relation.proofs.Entries.{kind_of-out, bytes_of-out}
 
 -- the receive FIFO with these words and entries
 abbrev pub rx_as : Table → List ℕ → List Entry → Table
-rx_as t left entries = record t { rx = record { left = left; entries = entries; depth = rx_depth out_count } }
+rx_as t left entries = record t { rx = record { left = left; entries = entries; depth = rx_depth FS4 } }
 
 -- all words of an entry are read
 pub words_read-all : (ws : List ℕ) → words_read (length ws) ws ≡ ws

@@ -7,11 +7,12 @@ use Rattle.device_machine.specs.declared.control.Stage.TheVariants.{Sent, Came}
 use Rattle.device_machine.specs.declared.control.Side.{Side}
 use Rattle.device_machine.specs.declared.control.Side.TheVariants.{Off, Wait, Loaded, Last, Armed, Stall, Finished}
 use Rattle.device_machine.specs.Bus.{Bus, unconfigured}
+use Rattle.dwc2_regs.specs.declared.access.TheConstants.{FS4}
 use Rattle.dwc2_regs.specs.Register.{grstctl, gintsts, dcfg}
 use Rattle.dwc2_fifo.specs.Words.{words_of}
 use Rattle.dwc2_fifo.specs.Rx.{Rx, Entry}
 use Rattle.dwc2_fifo.specs.Tx.{Tx, empty_of as tx_empty}
-use Rattle.device_table.specs.State.{Table, Kept, InEnd, OutEnd, rx_depth, out_count, with_out, out_end}
+use Rattle.device_table.specs.State.{Table, Kept, InEnd, OutEnd, rx_depth, with_out, out_end}
 use Rattle.device_table.specs.Words.{status_word, kind_of, number_of}
 use Rattle.device_table.specs.Write.{after_write}
 use Rattle.device_table.specs.Bus.{out_entries}
@@ -29,7 +30,7 @@ use Rattle.device_relation.proofs.Pops.{rx_as}
 
 pub emptied_as : Table → (unserved : ℕ) (xfrc stup : Bool) → Table
 emptied_as t unserved xfrc stup =
-    record t { core = record t.core { unserved = unserved }; rx = record { left = []; entries = []; depth = rx_depth out_count }; out0 = record t.out0 { xfrc = xfrc; stup = stup } }
+    record t { core = record t.core { unserved = unserved }; rx = record { left = []; entries = []; depth = rx_depth FS4 }; out0 = record t.out0 { xfrc = xfrc; stup = stup } }
 
 record Emptied (t : Table) (k : ℕ) (entries : List Entry) : Type 0 where
   unserved : ℕ
@@ -111,12 +112,12 @@ three (a ∷ b ∷ c ∷ d ∷ xs) h = absurd (omega arith)
 
 -- with all closed and all FIFOs empty, and with the receive FIFO popped
 closed : Table → Table
-closed t = after_write (pipes_closed (after_write t dcfg 0)) grstctl flush_all
+closed t = after_write (pipes_closed FS4 (after_write t dcfg 0)) grstctl flush_all
 
 done : Table → Table
-done t = after_write (all_cleared t) gintsts reset_bits
+done t = after_write (all_cleared FS4 t) gintsts reset_bits
 
-served : (t : Table) → reset_served t ≡ done (popped_all 8 (closed t))
+served : (t : Table) → reset_served FS4 t ≡ done (popped_all 8 (closed t))
 unfolding closed done
 served t = refl
 
@@ -139,8 +140,8 @@ first_true : (a r : Bool) → (a && r) ≡ false → r ≡ true → a ≡ false
 first_true false r e h = refl
 first_true true r e h = never r e h
 
-reset_stands : (t : Table) (s : Software) (m : Bus) (a b c : InEnd) (d e f : OutEnd) (u : ℕ) (x y : Bool) → Stands t s m → m.reset ≡ true → u ≡ 0
-    → Stands (done (emptied_as (closed (with_ends t a b c d e f)) u x y)) (unused true) (unconfigured true)
+reset_stands : (t : Table) (s : Software) (m : Bus) (a b c : InEnd) (d e f : OutEnd) (u : ℕ) (x y : Bool) → Stands FS4 t s m → m.reset ≡ true → u ≡ 0
+    → Stands FS4 (done (emptied_as (closed (with_ends t a b c d e f)) u x y)) (unused true) (unconfigured true)
 unfolding closed done emptied_as pipes_closed all_cleared
 reset_stands t s m a b c d e f u x y st resets none =
     let usb : t.core.usbrst ≡ true = sym st.core.reset ∙ resets in
@@ -164,7 +165,7 @@ reset_stands t s m a b c d e f u x y st resets none =
     }
 
 -- and so a reset is served
-pub reset_for : (j : Joint) (p : Port) → StandsFor j p → p.bus.reset ≡ true → StandsFor (record { table = reset_served j.table; software = unused true }) port_reset
+pub reset_for : (j : Joint) (p : Port) → StandsFor FS4 j p → p.bus.reset ≡ true → StandsFor FS4 (record { table = reset_served FS4 j.table; software = unused true }) port_reset
 unfolding closed done emptied_as pipes_closed all_cleared
 reset_for j p f resets =
     let st = f.stands in
@@ -176,10 +177,10 @@ reset_for j p f resets =
     let e : Emptied (closed t1) 8 (came_entries p.bus.side ++ setups_entries p.bus.unserved) =
     all_emptied p.bus.side p.bus.unserved (closed t1) st.side.packet st.rx.few st.rx.counts in
     let lies : closed t1 ≡ rx_as (closed t1) [] (came_entries p.bus.side ++ setups_entries p.bus.unserved) = ap (λ (rx : Rx). record (closed t1) { rx = rx }) st.rx.lie in
-    let is : reset_served t ≡ done (emptied_as (closed t1) e.unserved e.xfrc e.stup) =
-    ap reset_served whole ∙ ap (λ x. done (popped_all 8 x)) lies ∙ ap done e.is in
+    let is : reset_served FS4 t ≡ done (emptied_as (closed t1) e.unserved e.xfrc e.stup) =
+    ap (reset_served FS4) whole ∙ ap (λ x. done (popped_all 8 x)) lies ∙ ap done e.is in
     record {
-      stands = subst (λ x. Stands x (unused true) (unconfigured true)) (sym is) (reset_stands t j.software p.bus ins.a ins.b ins.c outs.a outs.b outs.c e.unserved e.xfrc e.stup st resets e.none);
+      stands = subst (λ x. Stands FS4 x (unused true) (unconfigured true)) (sym is) (reset_stands t j.software p.bus ins.a ins.b ins.c outs.a outs.b outs.c e.unserved e.xfrc e.stup st resets e.none);
       heard = refl;
       next_address = refl;
       reset = refl;

@@ -2,6 +2,7 @@
 use Rattle.std.proofs.Common.{◌≡◌, Bool, true, false, refl, ap, sym, ◌∙◌, subst}
 use Rattle.std.specs.Prelude.{if◌then◌else◌}
 use Rattle.device_machine.specs.Bus.{finished_stage}
+use Rattle.dwc2_regs.specs.declared.access.TheConstants.{FS4}
 use Rattle.device_relation.specs.Software.{Joint, unused}
 use Rattle.device_relation.specs.Port.{Port, StandsFor, port_of, port_reset, with_stages, after_handler}
 use Rattle.device_relation.specs.Run.{run, reset_served, served_by}
@@ -10,18 +11,18 @@ use Rattle.device_relation.proofs.Stages.{reset_is}
 use Rattle.device_relation.proofs.Serves.{serves_for}
 use Rattle.device_relation.proofs.Resets.{reset_for}
 
-by_reset : (j : Joint) (p : Port) (b : Bool) → p.bus.reset ≡ b → StandsFor j p
-    → StandsFor (if b then record { table = reset_served j.table; software = unused true } else served_by j j.software.side) (if b then port_reset else with_stages p (finished_stage p.bus.side))
+by_reset : (j : Joint) (p : Port) (b : Bool) → p.bus.reset ≡ b → StandsFor FS4 j p
+    → StandsFor FS4 (if b then record { table = reset_served FS4 j.table; software = unused true } else served_by j j.software.side) (if b then port_reset else with_stages p (finished_stage p.bus.side))
 by_reset j p true e f = reset_for j p f e
 by_reset j p false e f = serves_for j p f
 
-pub run_for : (j : Joint) (p : Port) → StandsFor j p → StandsFor (run j) (after_handler p)
+pub run_for : (j : Joint) (p : Port) → StandsFor FS4 j p → StandsFor FS4 (run FS4 j) (after_handler p)
 run_for j p f =
-    subst (λ b. StandsFor (if b then record { table = reset_served j.table; software = unused true } else served_by j j.software.side) (after_handler p))
+    subst (λ b. StandsFor FS4 (if b then record { table = reset_served FS4 j.table; software = unused true } else served_by j j.software.side) (after_handler p))
     (f.stands.core.reset ∙ sym (reset_is j.table)) (by_reset j p p.bus.reset refl f)
 
 -- the device with notes is determined
-pub port_is : (j : Joint) (p : Port) → StandsFor j p → port_of j ≡ p
+pub port_is : (j : Joint) (p : Port) → StandsFor FS4 j p → port_of j ≡ p
 port_is j p f =
     ap (λ b. record (port_of j) { bus = b }) (determined j.table j.software p.bus f.stands)
     ∙ ap (λ v. record (port_of j) { bus = p.bus; heard = v }) (sym f.heard)

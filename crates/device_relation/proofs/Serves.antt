@@ -5,8 +5,9 @@ use Rattle.device_machine.specs.declared.control.Stage.TheVariants.{Sent, Came}
 use Rattle.device_machine.specs.declared.control.Side.{Side}
 use Rattle.device_machine.specs.declared.control.Side.TheVariants.{Off, Wait, Loaded, Last, Armed, Stall, Finished}
 use Rattle.device_machine.specs.Bus.{Bus, last_of, finished_stage}
+use Rattle.dwc2_regs.specs.declared.access.TheConstants.{FS4}
 use Rattle.dwc2_fifo.specs.Rx.{Rx, Entry}
-use Rattle.device_table.specs.State.{Table, rx_depth, out_count}
+use Rattle.device_table.specs.State.{Table, rx_depth}
 use Rattle.device_relation.specs.declared.software.Ready.{Ready}
 use Rattle.device_relation.specs.declared.software.Ready.TheVariants as ready
 use Rattle.device_relation.specs.Software.{Software, Joint}
@@ -20,16 +21,16 @@ use Rattle.device_relation.proofs.Taken.{came_off, setup_off, or_nothing}
 use Rattle.device_relation.proofs.Loads.{waiting_for}
 
 -- the receive FIFO, where the entries are these
-lies_as : (t : Table) (s : Software) (m : Bus) (entries : List Entry) → Stands t s m → came_entries m.side ++ setups_entries m.unserved ≡ entries → t ≡ rx_as t [] entries
-lies_as t s m entries st e = ap (λ (rx : Rx). record t { rx = rx }) (st.rx.lie ∙ ap (λ es. record { left = []; entries = es; depth = rx_depth out_count }) e)
+lies_as : (t : Table) (s : Software) (m : Bus) (entries : List Entry) → Stands FS4 t s m → came_entries m.side ++ setups_entries m.unserved ≡ entries → t ≡ rx_as t [] entries
+lies_as t s m entries st e = ap (λ (rx : Rx). record t { rx = rx }) (st.rx.lie ∙ ap (λ es. record { left = []; entries = es; depth = rx_depth FS4 }) e)
 
 -- SETUPs
 
 setup_port : Port → List ℕ → List (List ℕ) → Port
 setup_port p bytes us = record p { bus = record p.bus { unserved = us; side = Off }; heard = true; next_address = None; request = Some bytes }
 
-setup_for : (j : Joint) (p : Port) (bytes : List ℕ) (us : List (List ℕ)) → StandsFor j (record p { bus = record p.bus { unserved = bytes ∷ us } })
-    → StandsFor (record { table = setup_table (rx_as j.table [] (setups_entries us)); software = setup_software j.software bytes }) (setup_port p bytes us)
+setup_for : (j : Joint) (p : Port) (bytes : List ℕ) (us : List (List ℕ)) → StandsFor FS4 j (record p { bus = record p.bus { unserved = bytes ∷ us } })
+    → StandsFor FS4 (record { table = setup_table (rx_as j.table [] (setups_entries us)); software = setup_software j.software bytes }) (setup_port p bytes us)
 unfolding setup_port
 setup_for j p bytes us f = record {
   stands = setup_off j.table j.software p.bus bytes us f.stands;
@@ -62,14 +63,14 @@ one_fuel : (k n : ℕ) → k ≤ 1 → 2 * suc n ≤ k → 2 * suc n ≤ 1
 one_fuel k n h l = omega arith
 
 -- the last of them is noted, and where there is none the packet that waits is loaded
-requests_for : (us : List (List ℕ)) (k : ℕ) (j : Joint) (p : Port) → 2 * length us ≤ k → came_entries p.bus.side ≡ [] → StandsFor j (record p { bus = record p.bus { unserved = us } })
-    → StandsFor (waiting_loaded (entries_taken k j)) (with_request (record p { bus = record p.bus { unserved = us } }) (last_of us))
+requests_for : (us : List (List ℕ)) (k : ℕ) (j : Joint) (p : Port) → 2 * length us ≤ k → came_entries p.bus.side ≡ [] → StandsFor FS4 j (record p { bus = record p.bus { unserved = us } })
+    → StandsFor FS4 (waiting_loaded (entries_taken k j)) (with_request (record p { bus = record p.bus { unserved = us } }) (last_of us))
 unfolding setup_port
 requests_for [] k j p fuel none f =
     let lies : j.table ≡ rx_as j.table [] [] = lies_as j.table j.software (record p.bus { unserved = [] }) [] f.stands (ap (λ es. es ++ setups_entries []) none) in
     let same : entries_taken k j ≡ j =
     ap (λ t. entries_taken k (record { table = t; software = j.software })) lies ∙ none_taken k j.table j.software ∙ ap (λ t. record { table = t; software = j.software }) (sym lies) in
-    subst (λ x. StandsFor (waiting_loaded x) (with_request (record p { bus = record p.bus { unserved = [] } }) None)) (sym same) (waiting_for j (record p { bus = record p.bus { unserved = [] } }) f refl)
+    subst (λ x. StandsFor FS4 (waiting_loaded x) (with_request (record p { bus = record p.bus { unserved = [] } }) None)) (sym same) (waiting_for j (record p { bus = record p.bus { unserved = [] } }) f refl)
 requests_for (b ∷ us) zero j p fuel none f = no_fuel (length us) (one_fuel zero (length us) (omega arith) fuel)
 requests_for (b ∷ us) (suc zero) j p fuel none f = no_fuel (length us) (one_fuel 1 (length us) (omega arith) fuel)
 requests_for (b ∷ us) (suc (suc k)) j p fuel none f =
@@ -80,8 +81,8 @@ requests_for (b ∷ us) (suc (suc k)) j p fuel none f =
     ap (λ t. entries_taken (suc (suc k)) (record { table = t; software = j.software })) lies ∙ setup_popped k j.table j.software b (setups_entries us) f.stands.rx.are.0 in
     let p1 : Port = setup_port p b us in
     let rest = requests_for us k j1 p1 (less_fuel k (length us) fuel) refl (setup_for j p b us f) in
-    subst (λ x. StandsFor (waiting_loaded x) (with_request (record p { bus = record p.bus { unserved = b ∷ us } }) (last_of (b ∷ us)))) (sym step)
-    (subst (λ q. StandsFor (waiting_loaded (entries_taken k j1)) q) (again us) rest)
+    subst (λ x. StandsFor FS4 (waiting_loaded x) (with_request (record p { bus = record p.bus { unserved = b ∷ us } }) (last_of (b ∷ us)))) (sym step)
+    (subst (λ q. StandsFor FS4 (waiting_loaded (entries_taken k j1)) q) (again us) rest)
   where
     again : (us : List (List ℕ)) → with_request (setup_port p b us) (last_of us) ≡ with_request (record p { bus = record p.bus { unserved = b ∷ us } }) (last_of (b ∷ us))
     again [] = refl
@@ -96,8 +97,8 @@ eight n h = omega arith
 
 -- a packet in front of them
 
-came_for : (j : Joint) (p : Port) (bytes : List ℕ) → StandsFor j (record p { bus = record p.bus { side = Finished (Came bytes) } })
-    → StandsFor (record { table = came_table (rx_as j.table [] (setups_entries p.bus.unserved)); software = came_software j.software bytes }) (with_stage p (Came bytes))
+came_for : (j : Joint) (p : Port) (bytes : List ℕ) → StandsFor FS4 j (record p { bus = record p.bus { side = Finished (Came bytes) } })
+    → StandsFor FS4 (record { table = came_table (rx_as j.table [] (setups_entries p.bus.unserved)); software = came_software j.software bytes }) (with_stage p (Came bytes))
 came_for j p bytes f = record {
   stands = came_off j.table j.software p.bus bytes f.stands;
   heard = f.heard ∙ or_nothing (was_heard j.software.heard) f.stands.side.first;
@@ -119,11 +120,11 @@ is_sent (Last p) = false
 is_sent Armed = false
 is_sent Stall = false
 
-plain_for : (j : Joint) (p : Port) → came_entries p.bus.side ≡ [] → StandsFor j p → StandsFor (rest_served j) (with_request p (last_of p.bus.unserved))
+plain_for : (j : Joint) (p : Port) → came_entries p.bus.side ≡ [] → StandsFor FS4 j p → StandsFor FS4 (rest_served j) (with_request p (last_of p.bus.unserved))
 plain_for j p none f = requests_for p.bus.unserved 8 j p (eight (length p.bus.unserved) f.stands.rx.few) none f
 
-rest_for : (side : Side) (j : Joint) (p : Port) → is_sent side ≡ false → StandsFor j (record p { bus = record p.bus { side = side } })
-    → StandsFor (rest_served j) (with_stages (record p { bus = record p.bus { side = side } }) (finished_stage side))
+rest_for : (side : Side) (j : Joint) (p : Port) → is_sent side ≡ false → StandsFor FS4 j (record p { bus = record p.bus { side = side } })
+    → StandsFor FS4 (rest_served j) (with_stages (record p { bus = record p.bus { side = side } }) (finished_stage side))
 unfolding is_sent
 rest_for (Finished Sent) j p e f = never true e refl
 rest_for (Finished (Came bytes)) j p e f =
@@ -133,7 +134,7 @@ rest_for (Finished (Came bytes)) j p e f =
     let j1 : Joint = record { table = came_table (rx_as j.table [] (setups_entries us)); software = came_software j.software bytes } in
     let step : entries_taken 8 j ≡ entries_taken 6 j1 =
     ap (λ t. entries_taken 8 (record { table = t; software = j.software })) lies ∙ came_popped 6 j.table j.software bytes (setups_entries us) f.stands.side.packet in
-    subst (λ x. StandsFor (waiting_loaded x) (with_stages (record p { bus = record p.bus { side = Finished (Came bytes) } }) (Some (Came bytes)))) (sym step)
+    subst (λ x. StandsFor FS4 (waiting_loaded x) (with_stages (record p { bus = record p.bus { side = Finished (Came bytes) } }) (Some (Came bytes)))) (sym step)
     (requests_for us 6 j1 (with_stage p (Came bytes)) (six (length us) f.stands.rx.few) refl (came_for j p bytes f))
 rest_for Off j p e f = plain_for j (record p { bus = record p.bus { side = Off } }) refl f
 rest_for (Wait q l) j p e f = plain_for j (record p { bus = record p.bus { side = Wait q l } }) refl f
@@ -142,7 +143,7 @@ rest_for (Last q) j p e f = plain_for j (record p { bus = record p.bus { side = 
 rest_for Armed j p e f = plain_for j (record p { bus = record p.bus { side = Armed } }) refl f
 rest_for Stall j p e f = plain_for j (record p { bus = record p.bus { side = Stall } }) refl f
 
-others_for : (j : Joint) (p : Port) → is_sent p.bus.side ≡ false → StandsFor j p → StandsFor (rest_served j) (with_stages p (finished_stage p.bus.side))
+others_for : (j : Joint) (p : Port) → is_sent p.bus.side ≡ false → StandsFor FS4 j p → StandsFor FS4 (rest_served j) (with_stages p (finished_stage p.bus.side))
 others_for j p e f = rest_for p.bus.side j p e f
 
 -- none was acknowledged
@@ -189,38 +190,38 @@ stall_not_sent stall_off = refl
 
 -- a packet that was
 
-sent_serves : (j : Joint) (p : Port) (next : Option ℕ) → IsAddress next → StandsFor j p → j.software.side ≡ ready.Loaded → j.table.in0.xfrc ≡ true
-    → StandsFor (sent_served j next) (with_address (with_stage p Sent) next)
+sent_serves : (j : Joint) (p : Port) (next : Option ℕ) → IsAddress next → StandsFor FS4 j p → j.software.side ≡ ready.Loaded → j.table.in0.xfrc ≡ true
+    → StandsFor FS4 (sent_served j next) (with_address (with_stage p Sent) next)
 sent_serves j p (Some n) h f e x = address_for j p n h f e x
 sent_serves j p None h f e x = plain_for (sent_noted j) (with_stage p Sent) refl (sent_for j p f e x)
 
-finished_port : (j : Joint) (p : Port) → StandsFor j p → (side : Side) → p.bus.side ≡ side → with_stages p (finished_stage side) ≡ with_stages p (finished_stage p.bus.side)
+finished_port : (j : Joint) (p : Port) → StandsFor FS4 j p → (side : Side) → p.bus.side ≡ side → with_stages p (finished_stage side) ≡ with_stages p (finished_stage p.bus.side)
 finished_port j p f side e = ap (λ s. with_stages p (finished_stage s)) (sym e)
 
-loaded_serves : (j : Joint) (p : Port) (x : Bool) → j.table.in0.xfrc ≡ x → StandsFor j p → j.software.side ≡ ready.Loaded
-    → StandsFor (if x then sent_served j j.software.next_address else rest_served j) (with_stages p (finished_stage p.bus.side))
+loaded_serves : (j : Joint) (p : Port) (x : Bool) → j.table.in0.xfrc ≡ x → StandsFor FS4 j p → j.software.side ≡ ready.Loaded
+    → StandsFor FS4 (if x then sent_served j j.software.next_address else rest_served j) (with_stages p (finished_stage p.bus.side))
 loaded_serves j p true x f e =
     let is : p.bus.side ≡ Finished Sent = finished_is j.table j.software p.bus f.stands e x in
-    subst (λ q. StandsFor (sent_served j j.software.next_address) q) (finished_port j p f (Finished Sent) is)
-    (subst (λ n. StandsFor (sent_served j n) (with_address (with_stage p Sent) p.next_address)) f.next_address (sent_serves j p p.next_address (subst IsAddress (sym f.next_address) f.stands.core.next) f e x))
+    subst (λ q. StandsFor FS4 (sent_served j j.software.next_address) q) (finished_port j p f (Finished Sent) is)
+    (subst (λ n. StandsFor FS4 (sent_served j n) (with_address (with_stage p Sent) p.next_address)) f.next_address (sent_serves j p p.next_address (subst IsAddress (sym f.next_address) f.stands.core.next) f e x))
 loaded_serves j p false x f e = others_for j p (not_sent (subst (λ b. Pair b j.software.side p.bus.side) x f.stands.pair)) f
 
-last_serves : (j : Joint) (p : Port) (x : Bool) → j.table.in0.xfrc ≡ x → StandsFor j p → j.software.side ≡ ready.Last
-    → StandsFor (if x then last_served j else rest_served j) (with_stages p (finished_stage p.bus.side))
+last_serves : (j : Joint) (p : Port) (x : Bool) → j.table.in0.xfrc ≡ x → StandsFor FS4 j p → j.software.side ≡ ready.Last
+    → StandsFor FS4 (if x then last_served j else rest_served j) (with_stages p (finished_stage p.bus.side))
 last_serves j p true x f e =
     others_for (record { table = cleared_ack j.table; software = record j.software { side = ready.Armed } }) p (last_not_sent (subst (λ r. Pair j.table.in0.xfrc r p.bus.side) e f.stands.pair)) (last_for j p f e x)
 last_serves j p false x f e = others_for j p (last_not_sent (subst (λ r. Pair j.table.in0.xfrc r p.bus.side) e f.stands.pair)) f
 
-serves_by : (j : Joint) (p : Port) (r : Ready) → j.software.side ≡ r → StandsFor j p → StandsFor (served_by j r) (with_stages p (finished_stage p.bus.side))
+serves_by : (j : Joint) (p : Port) (r : Ready) → j.software.side ≡ r → StandsFor FS4 j p → StandsFor FS4 (served_by j r) (with_stages p (finished_stage p.bus.side))
 serves_by j p ready.Loaded e f =
-    subst (λ x. StandsFor (if x then sent_served j j.software.next_address else rest_served j) (with_stages p (finished_stage p.bus.side))) (sym (acknowledged_is j))
+    subst (λ x. StandsFor FS4 (if x then sent_served j j.software.next_address else rest_served j) (with_stages p (finished_stage p.bus.side))) (sym (acknowledged_is j))
     (loaded_serves j p j.table.in0.xfrc refl f e)
 serves_by j p ready.Last e f =
-    subst (λ x. StandsFor (if x then last_served j else rest_served j) (with_stages p (finished_stage p.bus.side))) (sym (acknowledged_is j)) (last_serves j p j.table.in0.xfrc refl f e)
+    subst (λ x. StandsFor FS4 (if x then last_served j else rest_served j) (with_stages p (finished_stage p.bus.side))) (sym (acknowledged_is j)) (last_serves j p j.table.in0.xfrc refl f e)
 serves_by j p ready.Off e f = others_for j p (off_not_sent (subst (λ r. Pair j.table.in0.xfrc r p.bus.side) e f.stands.pair)) f
 serves_by j p (ready.Wait q l) e f = others_for j p (wait_not_sent (subst (λ r. Pair j.table.in0.xfrc r p.bus.side) e f.stands.pair)) f
 serves_by j p ready.Armed e f = others_for j p (armed_not_sent (subst (λ r. Pair j.table.in0.xfrc r p.bus.side) e f.stands.pair)) f
 serves_by j p ready.Stall e f = others_for j p (stall_not_sent (subst (λ r. Pair j.table.in0.xfrc r p.bus.side) e f.stands.pair)) f
 
-pub serves_for : (j : Joint) (p : Port) → StandsFor j p → StandsFor (served_by j j.software.side) (with_stages p (finished_stage p.bus.side))
+pub serves_for : (j : Joint) (p : Port) → StandsFor FS4 j p → StandsFor FS4 (served_by j j.software.side) (with_stages p (finished_stage p.bus.side))
 serves_for j p f = serves_by j p j.software.side refl f

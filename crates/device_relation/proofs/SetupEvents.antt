@@ -8,13 +8,14 @@ use Rattle.device_machine.specs.declared.control.Side.{Side}
 use Rattle.device_machine.specs.declared.control.Side.TheVariants.{Off, Wait, Loaded, Last, Armed, Stall, Finished}
 use Rattle.device_machine.specs.Bus as bus
 use Rattle.device_machine.specs.Bus.{Bus, disturbed}
+use Rattle.dwc2_regs.specs.declared.access.TheConstants.{FS4}
 use Rattle.dwc2_regs.specs.declared.TheConstants.{DCFG_ADDRESS}
 use Rattle.dwc2_regs.specs.Field.{field_of}
 use Rattle.dwc2_fifo.specs.Words.{word_count, words_of}
 use Rattle.dwc2_fifo.specs.Rx.{Entry, Rx, words_in, room_of}
 use Rattle.dwc2_fifo.specs.Tx.{Tx, empty_of as tx_empty}
 use Rattle.dwc2_fifo.proofs.WordsLemmas.{length-words_of}
-use Rattle.device_table.specs.State.{Table, rx_depth, out_count}
+use Rattle.device_table.specs.State.{Table, rx_depth}
 use Rattle.device_table.specs.Bus as table
 use Rattle.device_table.specs.Bus.{out_entries, setup_entries}
 use Rattle.device_relation.specs.declared.software.Ready.{Ready}
@@ -34,7 +35,7 @@ landed_nothing false = refl
 
 -- A reset.
 
-pub reset_stands : (t : Table) (s : Software) (m : Bus) → Stands t s m → Stands (table.after_reset t) s (record m { awake = false; reset = true })
+pub reset_stands : (t : Table) (s : Software) (m : Bus) → Stands FS4 t s m → Stands FS4 (table.after_reset t) s (record m { awake = false; reset = true })
 reset_stands t s m st = record {
   ins = st.ins;
   outs = st.outs;
@@ -77,7 +78,7 @@ rx_words side us h k =
 room_left : (used n : ℕ) → used ≤ 18 + 4 * n → IsTrue (nat_lt n 3) → nat_le 4 (84 - (0 + used)) ≡ true
 room_left used n h k = grind (arith, nat_tests)
 
-has_place : (t : Table) (s : Software) (m : Bus) → Stands t s m → IsTrue (nat_lt (length m.unserved) 3) → nat_le 4 (room_of t.rx) ≡ true
+has_place : (t : Table) (s : Software) (m : Bus) → Stands FS4 t s m → IsTrue (nat_lt (length m.unserved) 3) → nat_le 4 (room_of t.rx) ≡ true
 has_place t s m st few =
     ap (λ (rx : Rx). nat_le 4 (room_of rx)) st.rx.lie
     ∙ room_left (words_in (came_entries m.side ++ setups_entries m.unserved)) (length m.unserved) (rx_words m.side m.unserved st.side.packet st.rx.are) few
@@ -88,7 +89,7 @@ four_tests true false few room k = refl
 four_tests true true false room k = refl
 four_tests true true true room k = k refl
 
-pub hears_setup_is : (t : Table) (s : Software) (m : Bus) (addr : ℕ) (ok : Bool) → Stands t s m → table.hears_setup t addr ok ≡ bus.hears_setup m addr ok
+pub hears_setup_is : (t : Table) (s : Software) (m : Bus) (addr : ℕ) (ok : Bool) → Stands FS4 t s m → table.hears_setup t addr ok ≡ bus.hears_setup m addr ok
 hears_setup_is t s m addr ok st =
     ap (λ h. h && ok && nat_lt t.core.unserved 3 && nat_le 4 (room_of t.rx)) (hears_is t s m addr st.core)
     ∙ ap (λ n. bus.hears m addr && ok && nat_lt n 3 && nat_le 4 (room_of t.rx)) st.rx.counts
@@ -176,8 +177,8 @@ both_ways b e h = cc
 pub never : {A : Type 0} → (b : Bool) → b ≡ false → IsTrue b → A
 never b e h = absurd (both_ways b e h)
 
-pub setup_stands : (t : Table) (s : Software) (m : Bus) (b : List ℕ) → Stands t s m → IsSetup b → length m.unserved < 3
-    → Stands (table.after_setup t b) s (bus.after_setup m b)
+pub setup_stands : (t : Table) (s : Software) (m : Bus) (b : List ℕ) → Stands FS4 t s m → IsSetup b → length m.unserved < 3
+    → Stands FS4 (table.after_setup t b) s (bus.after_setup m b)
 setup_stands t s m b st h few =
     let c : Calm m.side = calm m.side in
     let lies = some_more m.unserved b in
@@ -195,7 +196,7 @@ setup_stands t s m b st h few =
         alone = ap (λ w. w && is_loaded (disturbed m.side)) lies ∙ c.loaded;
       };
       rx = record {
-        lie = ap (λ (rx : Rx). record rx { entries = rx.entries ++ setup_entries b }) st.rx.lie ∙ ap (λ es. record { left = []; entries = es; depth = rx_depth out_count }) (entries_more m.side m.unserved b);
+        lie = ap (λ (rx : Rx). record rx { entries = rx.entries ++ setup_entries b }) st.rx.lie ∙ ap (λ es. record { left = []; entries = es; depth = rx_depth FS4 }) (entries_more m.side m.unserved b);
         counts = omega arith;
         few = omega arith;
         are = are_more m.unserved b st.rx.are h;

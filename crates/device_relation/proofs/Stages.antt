@@ -4,6 +4,7 @@ use Rattle.device_machine.specs.declared.control.Stage.TheVariants.{Sent}
 use Rattle.device_machine.specs.declared.control.Side.{Side}
 use Rattle.device_machine.specs.declared.control.Side.TheVariants.{Off, Finished}
 use Rattle.device_machine.specs.Bus.{Bus}
+use Rattle.dwc2_regs.specs.declared.access.TheConstants.{FS4}
 use Rattle.dwc2_regs.specs.declared.TheConstants.{DIEPINT_XFRC, GINTSTS_USBRST, DCFG_ADDRESS}
 use Rattle.dwc2_regs.specs.Field.{field_of}
 use Rattle.dwc2_regs.specs.Register.{gintsts, dcfg}
@@ -80,11 +81,11 @@ reset_is t = reset_by (rxflvl t) t.core.usbrst t.core.enumdne (iepint t) (oepint
 pair_finished : {side : Side} → Pair true ready.Loaded side → side ≡ Finished Sent
 pair_finished loaded_sent = refl
 
-pub finished_is : (t : Table) (s : Software) (m : Bus) → Stands t s m → s.side ≡ ready.Loaded → t.in0.xfrc ≡ true → m.side ≡ Finished Sent
+pub finished_is : (t : Table) (s : Software) (m : Bus) → Stands FS4 t s m → s.side ≡ ready.Loaded → t.in0.xfrc ≡ true → m.side ≡ Finished Sent
 finished_is t s m st e x = pair_finished (subst (λ r. Pair true r m.side) e (subst (λ b. Pair b s.side m.side) x st.pair))
 
-sent_off : (t : Table) (s : Software) (m : Bus) (n : Option ℕ) → IsAddress n → Stands t s (record m { side = Finished Sent })
-    → Stands (cleared_ack t) (record s { side = ready.Off; finished = Some Sent; next_address = n }) (record m { side = Off })
+sent_off : (t : Table) (s : Software) (m : Bus) (n : Option ℕ) → IsAddress n → Stands FS4 t s (record m { side = Finished Sent })
+    → Stands FS4 (cleared_ack t) (record s { side = ready.Off; finished = Some Sent; next_address = n }) (record m { side = Off })
 sent_off t s m n is st = record {
   ins = record { kept = st.ins.kept; stall = st.ins.stall; enabled = st.ins.enabled; ready = never _ refl; holds = st.ins.holds; size = never _ refl };
   outs = record { kept = st.outs.kept; stall = st.outs.stall; enabled = st.outs.enabled; naks = never _ refl; toggle = st.outs.toggle; lies = st.outs.lies };
@@ -96,10 +97,10 @@ sent_off t s m n is st = record {
   core = record { awake = st.core.awake; reset = st.core.reset; address = st.core.address; endpoints = st.core.endpoints; landed = st.core.landed; asleep = st.core.asleep; next = is };
 }
 
-at_finished : (t : Table) (s : Software) (m : Bus) → Stands t s m → s.side ≡ ready.Loaded → t.in0.xfrc ≡ true → Stands t s (record m { side = Finished Sent })
-at_finished t s m st e x = subst (λ side. Stands t s (record m { side = side })) (finished_is t s m st e x) st
+at_finished : (t : Table) (s : Software) (m : Bus) → Stands FS4 t s m → s.side ≡ ready.Loaded → t.in0.xfrc ≡ true → Stands FS4 t s (record m { side = Finished Sent })
+at_finished t s m st e x = subst (λ side. Stands FS4 t s (record m { side = side })) (finished_is t s m st e x) st
 
-pub sent_for : (j : Joint) (p : Port) → StandsFor j p → j.software.side ≡ ready.Loaded → j.table.in0.xfrc ≡ true → StandsFor (sent_noted j) (with_stage p Sent)
+pub sent_for : (j : Joint) (p : Port) → StandsFor FS4 j p → j.software.side ≡ ready.Loaded → j.table.in0.xfrc ≡ true → StandsFor FS4 (sent_noted j) (with_stage p Sent)
 sent_for j p f e x = record {
   stands = sent_off j.table j.software p.bus j.software.next_address f.stands.core.next (at_finished j.table j.software p.bus f.stands e x);
   heard = f.heard;
@@ -114,7 +115,7 @@ sent_for j p f e x = record {
 address_is : (n : ℕ) → n < 128 → field_of (address_word n) DCFG_ADDRESS ≡ n
 address_is n h = omega arith
 
-addressed_on : (t : Table) (s : Software) (m : Bus) (n : ℕ) → n < 128 → Stands t s m → Stands (after_write t dcfg (address_word n)) s (record m { address = n })
+addressed_on : (t : Table) (s : Software) (m : Bus) (n : ℕ) → n < 128 → Stands FS4 t s m → Stands FS4 (after_write t dcfg (address_word n)) s (record m { address = n })
 addressed_on t s m n h st = record {
   ins = st.ins;
   outs = st.outs;
@@ -126,8 +127,8 @@ addressed_on t s m n h st = record {
   core = record { awake = st.core.awake; reset = st.core.reset; address = sym (address_is n h); endpoints = st.core.endpoints; landed = st.core.landed; asleep = st.core.asleep; next = st.core.next };
 }
 
-pub address_for : (j : Joint) (p : Port) (n : ℕ) → n < 128 → StandsFor j p → j.software.side ≡ ready.Loaded → j.table.in0.xfrc ≡ true
-    → StandsFor (sent_served j (Some n)) (with_address (with_stage p Sent) (Some n))
+pub address_for : (j : Joint) (p : Port) (n : ℕ) → n < 128 → StandsFor FS4 j p → j.software.side ≡ ready.Loaded → j.table.in0.xfrc ≡ true
+    → StandsFor FS4 (sent_served j (Some n)) (with_address (with_stage p Sent) (Some n))
 address_for j p n h f e x = record {
   stands = addressed_on (cleared_ack j.table) (record j.software { side = ready.Off; finished = Some Sent; next_address = None }) (record p.bus { side = Off }) n h
       (sent_off j.table j.software p.bus None tt (at_finished j.table j.software p.bus f.stands e x));
@@ -145,8 +146,8 @@ pair_armed last_armed = armed_armed
 pair_armed last_came = armed_came
 pair_armed last_off = armed_off
 
-pub last_for : (j : Joint) (p : Port) → StandsFor j p → j.software.side ≡ ready.Last → j.table.in0.xfrc ≡ true
-    → StandsFor (record { table = cleared_ack j.table; software = record j.software { side = ready.Armed } }) p
+pub last_for : (j : Joint) (p : Port) → StandsFor FS4 j p → j.software.side ≡ ready.Last → j.table.in0.xfrc ≡ true
+    → StandsFor FS4 (record { table = cleared_ack j.table; software = record j.software { side = ready.Armed } }) p
 last_for j p f e x =
     let st = f.stands in
     record {

@@ -5,6 +5,7 @@ use Rattle.device_machine.specs.declared.control.Stage.TheVariants.{Came}
 use Rattle.device_machine.specs.declared.control.Side.{Side}
 use Rattle.device_machine.specs.declared.control.Side.TheVariants.{Off, Wait, Loaded, Last, Armed, Stall, Finished}
 use Rattle.device_machine.specs.Bus.{Bus}
+use Rattle.dwc2_regs.specs.declared.access.TheConstants.{FS4}
 use Rattle.device_table.specs.State.{Table}
 use Rattle.device_relation.specs.Software.{Software}
 use Rattle.device_relation.specs.Relation.{Stands, off_off, loaded_bytes, is_loaded, was_heard, was_packet, toggle_of, some_lie, setups_entries, tx_holding}
@@ -22,8 +23,8 @@ pub or_nothing : (b : Bool) → (b || false) ≡ true → b ≡ true
 or_nothing true e = refl
 or_nothing false e = e
 
-pub came_off : (t : Table) (s : Software) (m : Bus) (bytes : List ℕ) → Stands t s (record m { side = Finished (Came bytes) })
-    → Stands (came_table (rx_as t [] (setups_entries m.unserved))) (came_software s bytes) (record m { side = Off })
+pub came_off : (t : Table) (s : Software) (m : Bus) (bytes : List ℕ) → Stands FS4 t s (record m { side = Finished (Came bytes) })
+    → Stands FS4 (came_table (rx_as t [] (setups_entries m.unserved))) (came_software s bytes) (record m { side = Off })
 came_off t s m bytes st =
     let waits = some_lie m.unserved in
     let hears : was_heard s.heard ≡ true = or_nothing (was_heard s.heard) st.side.first in
@@ -72,8 +73,8 @@ none_loaded Armed e = refl
 none_loaded Stall e = refl
 none_loaded (Finished s) e = refl
 
-pub setup_off : (t : Table) (s : Software) (m : Bus) (bytes : List ℕ) (us : List (List ℕ)) → Stands t s (record m { unserved = bytes ∷ us })
-    → Stands (setup_table (rx_as t [] (setups_entries us))) (setup_software s bytes) (record m { unserved = us; side = Off })
+pub setup_off : (t : Table) (s : Software) (m : Bus) (bytes : List ℕ) (us : List (List ℕ)) → Stands FS4 t s (record m { unserved = bytes ∷ us })
+    → Stands FS4 (setup_table (rx_as t [] (setups_entries us))) (setup_software s bytes) (record m { unserved = us; side = Off })
 setup_off t s m bytes us st =
     let counts = st.rx.counts in
     let few = st.rx.few in

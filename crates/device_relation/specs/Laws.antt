@@ -3,6 +3,7 @@ use Rattle.std.specs.Prelude.{◌≡◌, false}
 use Rattle.usb_packet.specs.declared.bus.BusEvent.{BusEvent}
 use Rattle.usb_packet.specs.declared.bus.BusEvent.TheVariants as event
 use Rattle.device_machine.specs.Bus as bus
+use Rattle.dwc2_regs.specs.declared.access.Profile.{Profile}
 use Rattle.device_table.specs.State.{opened}
 use Rattle.device_table.specs.Bus as table
 use Rattle.device_relation.specs.Software.{Joint, unused}
@@ -20,18 +21,18 @@ abbrev pub after_event : Joint → BusEvent → Joint
 after_event j e = record j { table = table.after_bus j.table e }
 
 -- the controller answers what the device answers, it is the device's next state, and the two still agree
-pub record Keeps (j : Joint) (e : BusEvent) : Type 0 where
+pub record Keeps (profile : Profile) (j : Joint) (e : BusEvent) : Type 0 where
   pub answer : table.bus_answer j.table e ≡ bus.bus_answer (abstract j) e
   pub next : abstract (after_event j e) ≡ bus.bus_after (abstract j) e
-  pub sound : IsSound (after_event j e)
+  pub sound : IsSound profile (after_event j e)
 
-abbrev pub BusKeeps : Type 0
-BusKeeps = (j : Joint) (e : BusEvent) → IsSound j → IsEvent e → Keeps j e
+abbrev pub BusKeeps : Profile → Type 0
+BusKeeps profile = (j : Joint) (e : BusEvent) → IsSound profile j → IsEvent e → Keeps profile j e
 
 -- the opened state and a driver at its start are the device at its start
-abbrev pub at_start : Joint
-at_start = record { table = opened; software = unused false }
+abbrev pub at_start : Profile → Joint
+at_start profile = record { table = opened profile; software = unused false }
 
-pub record Starts : Type 0 where
-  pub sound : IsSound at_start
-  pub device : abstract at_start ≡ bus.unconfigured false
+pub record Starts (profile : Profile) : Type 0 where
+  pub sound : IsSound profile (at_start profile)
+  pub device : abstract (at_start profile) ≡ bus.unconfigured false

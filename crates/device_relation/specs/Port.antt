@@ -2,6 +2,7 @@
 use Rattle.std.specs.Prelude.{◌≡◌, ◌==◌, ℕ, Bool, true, false, if◌then◌else◌, List, [], ◌∷◌, ◌++◌, Option, Some, None}
 use Rattle.std.specs.List.{list_any}
 use Rattle.usb_descriptor.specs.declared.endpoint.Endpoint.{Endpoint}
+use Rattle.dwc2_regs.specs.declared.access.Profile.{Profile}
 use Rattle.device_machine.specs.declared.control.Stage.{Stage}
 use Rattle.device_machine.specs.declared.control.Stage.TheVariants.{Sent, Came}
 use Rattle.device_machine.specs.declared.control.Side.{Side}
@@ -22,8 +23,8 @@ pub record Port : Type 0 where
   pub request : Option (List ℕ)
 
 -- controller and software stand for a device with notes
-pub record StandsFor (j : Joint) (p : Port) : Type 0 where
-  pub stands : Stands j.table j.software p.bus
+pub record StandsFor (profile : Profile) (j : Joint) (p : Port) : Type 0 where
+  pub stands : Stands profile j.table j.software p.bus
   pub heard : p.heard ≡ was_heard j.software.heard
   pub next_address : p.next_address ≡ j.software.next_address
   pub reset : p.reset ≡ j.software.reset

@@ -13,7 +13,8 @@ use Rattle.dwc2_regs.specs.Field.{field_of}
 use Rattle.dwc2_fifo.specs.Words.{bytes_in}
 use Rattle.dwc2_fifo.specs.Rx.{Entry, Rx}
 use Rattle.dwc2_fifo.specs.Tx.{Tx, Tagged}
-use Rattle.device_table.specs.State.{Table, Kept, Host, Control, InEnd, OutEnd, in_end_of, no_out_end, in_count, out_count, opened, tx0_depth, rx_depth}
+use Rattle.dwc2_regs.specs.declared.access.Profile.{Profile}
+use Rattle.device_table.specs.State.{Table, Kept, Host, Control, InEnd, OutEnd, in_end_of, no_out_end, opened, tx0_depth, rx_depth}
 use Rattle.device_table.specs.Words.{flag, packet_size, out_data, setup_data, kind_of}
 use Rattle.device_table.specs.Bus.{out_entries, setup_entries}
 use Rattle.device_relation.specs.declared.software.Ready.{Ready}
@@ -285,8 +286,8 @@ abbrev pub AreSetups : List (List ℕ) → Type 0
 AreSetups [] = Unit {0}
 AreSetups (bytes ∷ setups) = IsSetup bytes × AreSetups setups
 
-pub record FifoPart (rx : Rx) (counted : ℕ) (side : Side) (setups : List (List ℕ)) : Type 0 where
-  pub lie : rx ≡ record { left = []; entries = came_entries side ++ setups_entries setups; depth = rx_depth out_count }
+pub record FifoPart (profile : Profile) (rx : Rx) (counted : ℕ) (side : Side) (setups : List (List ℕ)) : Type 0 where
+  pub lie : rx ≡ record { left = []; entries = came_entries side ++ setups_entries setups; depth = rx_depth profile }
   pub counts : counted ≡ length setups
   pub few : length setups ≤ 3
   pub are : AreSetups setups
@@ -303,12 +304,12 @@ pub record PipePart (ins : List InEnd) (outs : List OutEnd) (endpoints : List En
   pub in_naks : IsTrue (is_used (in_at ins n).control) → (in_at ins n).control.nak ≡ true
   pub in_stall : (in_at ins n).control.stall ≡ false
 
--- the rest: masks and sizes as in the opened state, and which endpoints there are
-pub record RestPart (kept : Kept) (host : Host) (ins : List InEnd) (outs : List OutEnd) : Type 0 where
-  pub masks : kept ≡ record opened.kept { dcfg = kept.dcfg; grstctl = kept.grstctl }
-  pub hosts : host ≡ opened.host
-  pub in_ends : length ins ≡ in_count
-  pub out_ends : length outs ≡ out_count
+-- the rest: masks and sizes as in the opened state, and the endpoints of the profile
+pub record RestPart (profile : Profile) (kept : Kept) (host : Host) (ins : List InEnd) (outs : List OutEnd) : Type 0 where
+  pub masks : kept ≡ record (opened profile).kept { dcfg = kept.dcfg; grstctl = kept.grstctl }
+  pub hosts : host ≡ (opened profile).host
+  pub in_ends : length ins ≡ profile.in_eps
+  pub out_ends : length outs ≡ profile.out_eps
 
 -- the packet from the host whose toggle a repeated one has: since the last SETUP and the last reset
 abbrev pub landed_of : Bool → Bool → Option Toggle
@@ -330,16 +331,16 @@ pub record CorePart (t : Table) (s : Software) (m : Bus) : Type 0 where
   pub asleep : (m.awake && m.reset) ≡ false
   pub next : IsAddress s.next_address
 
-pub record Stands (t : Table) (s : Software) (m : Bus) : Type 0 where
+pub record Stands (profile : Profile) (t : Table) (s : Software) (m : Bus) : Type 0 where
   pub ins : InPart t.in0 m.side
   pub outs : OutPart t.out0 m.side (some_lie m.unserved) (is_seen (some_lie m.unserved) s.heard) m.taken
   pub pair : Pair t.in0.xfrc s.side m.side
   pub side : SidePart m.taken m.toggle m.side (some_lie m.unserved) s.heard t.in0.toggle
-  pub rx : FifoPart t.rx t.core.unserved m.side m.unserved
+  pub rx : FifoPart profile t.rx t.core.unserved m.side m.unserved
   pub pipes : (n : ℕ) → PipePart t.ins t.outs m.endpoints n
-  pub rest : RestPart t.kept t.host t.ins t.outs
+  pub rest : RestPart profile t.kept t.host t.ins t.outs
   pub core : CorePart t s m
 
--- controller and software agree
-abbrev pub IsSound : Joint → Type 0
-IsSound j = Stands j.table j.software (abstract j)
+-- controller and software agree, on a controller of this profile
+abbrev pub IsSound : Profile → Joint → Type 0
+IsSound profile j = Stands profile j.table j.software (abstract j)

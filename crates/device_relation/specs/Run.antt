@@ -1,5 +1,6 @@
 -- What a handler run and each call of the driver do to the registers and to what it keeps.
-use Rattle.std.specs.Prelude.{ℕ, zero, suc, ◌+◌, ◌*◌, ◌^◌, ◌==◌, Bool, true, false, if◌then◌else◌, List, [], ◌∷◌, ◌++◌, length, take, min, Option, Some, None}
+use Rattle.std.specs.Prelude.{ℕ, zero, suc, ◌+◌, ◌*◌, ◌^◌, ◌==◌, Bool, true, false, if◌then◌else◌, List, [], ◌∷◌, ◌++◌, length, take, min, max, Option, Some, None}
+use Rattle.dwc2_regs.specs.declared.access.Profile.{Profile}
 use Rattle.usb_descriptor.specs.declared.endpoint.Endpoint.{Endpoint}
 use Rattle.usb_descriptor.specs.declared.endpoint.EpKind.{EpKind}
 use Rattle.usb_descriptor.specs.declared.endpoint.EpKind.TheVariants.{Bulk, Interrupt}
@@ -188,32 +189,45 @@ served_by j ready.Stall = rest_served j
 abbrev pub pipe_closed : Table → ℕ → Table
 pipe_closed t x = after_write (after_write t (diepctl x) snak_epdis) (doepctl x) snak_epdis
 
-unfoldable pub pipes_closed : Table → Table
-pipes_closed t = pipe_closed (pipe_closed (pipe_closed (pipe_closed t 0) 1) 2) 3
+-- so many steps, one for each number from this one on
+abbrev pub each_from : (Table → ℕ → Table) → ℕ → ℕ → Table → Table
+each_from step zero x t = t
+each_from step (suc n) x t = each_from step n (x + 1) (step t x)
+
+-- the highest number of an endpoint
+abbrev pub top_endpoint : Profile → ℕ
+top_endpoint profile = max profile.in_eps profile.out_eps
+
+-- all endpoints but endpoint 0, and all
+abbrev pub others_closed : Profile → Table → Table
+others_closed profile t = each_from pipe_closed (top_endpoint profile) 1 t
+
+unfoldable pub pipes_closed : Profile → Table → Table
+pipes_closed profile t = others_closed profile (pipe_closed t 0)
 
 abbrev pub interrupts_cleared : Table → ℕ → Table
 interrupts_cleared t x = after_write (after_write t (diepint x) all_in_interrupts) (doepint x) all_out_interrupts
 
-unfoldable pub all_cleared : Table → Table
-all_cleared t = interrupts_cleared (interrupts_cleared (interrupts_cleared (interrupts_cleared t 0) 1) 2) 3
+unfoldable pub all_cleared : Profile → Table → Table
+all_cleared profile t = each_from interrupts_cleared (top_endpoint profile + 1) 0 t
 
 unfoldable pub popped_all : ℕ → Table → Table
 popped_all zero t = t
 popped_all (suc n) t = if value_read t grxstsp == 0 then after_read t grxstsp else popped_all n (after_read t grxstsp)
 
 -- address 0, all endpoints disabled and their FIFOs empty; at the end USBRST is cleared, which wakes the device
-abbrev pub reset_served : Table → Table
-reset_served t =
-    let closed = pipes_closed (after_write t dcfg 0) in
+abbrev pub reset_served : Profile → Table → Table
+reset_served profile t =
+    let closed = pipes_closed profile (after_write t dcfg 0) in
     let empty = popped_all most_entries (after_write closed grstctl flush_all) in
-    after_write (all_cleared empty) gintsts reset_bits
+    after_write (all_cleared profile empty) gintsts reset_bits
 
 -- A handler run.
 
-abbrev pub run : Joint → Joint
-run j =
+abbrev pub run : Profile → Joint → Joint
+run profile j =
     if flag (value_read j.table gintsts) GINTSTS_USBRST
-    then record { table = reset_served j.table; software = unused true }
+    then record { table = reset_served profile j.table; software = unused true }
     else served_by j j.software.side
 
 -- Each call.
@@ -259,8 +273,5 @@ run_open_in j e number = record {
   software = record j.software { open_ones = j.software.open_ones ++ e ∷ [] };
 }
 
-abbrev pub others_closed : Table → Table
-others_closed t = pipe_closed (pipe_closed (pipe_closed t 1) 2) 3
-
-abbrev pub run_close : Joint → Joint
-run_close j = record { table = others_closed j.table; software = record j.software { open_ones = [] } }
+abbrev pub run_close : Profile → Joint → Joint
+run_close profile j = record { table = others_closed profile j.table; software = record j.software { open_ones = [] } }

@@ -1,5 +1,6 @@
 //! Laws of the relation, and of what its definitions ask of events and packets. The functions do nothing.
 ghost use Rattle.std.specs.Prelude.{ℕ, ◌<◌, slice_index};
+ghost use Rattle.dwc2_regs.specs.declared.access.TheConstants.{FS4};
 ghost use Rattle.device_relation.specs.Laws.{BusKeeps, Starts, IsEvent};
 ghost use Rattle.device_relation.specs.Relation.{IsSetup, IsPacket};
 
@@ -8,12 +9,12 @@ use usb_packet::{BusEvent, Packet};
 /// Where controller and software agree, the controller's answer to each bus event is that of the device that they are; what
 /// the event leaves is that device's next state, and they agree again.
 pub fn bus_keeps()
-    ensures { BusKeeps }
+    ensures { BusKeeps FS4 }
 {}
 
 /// At the start controller and software agree, and are the device at its start.
 pub fn starts()
-    ensures { Starts }
+    ensures { Starts FS4 }
 {}
 
 /// Each event has the bytes that one has: eight in a SETUP, and at most 64 in a packet.

@@ -1,5 +1,6 @@
 ghost use Rattle.std.specs.Prelude.{◌≡◌, ◌<◌, ◌^◌, [], IfOk};
 ghost use Rattle.usb_descriptor.specs.Set.{IsAccepted};
+ghost use Rattle.dwc2_regs.specs.declared.access.TheConstants.{FS4};
 ghost use Rattle.device_table.specs.State.{opened};
 ghost use Rattle.device_machine.specs.Core.{start};
 ghost use Rattle.device_schedule.specs.Job.{limits};
@@ -28,6 +29,7 @@ pub struct DeviceRun {
 
 impl Model for DeviceRun {
     ghost use Rattle.std.specs.Prelude.{◌≡◌, []};
+    ghost use Rattle.dwc2_regs.specs.declared.access.TheConstants.{FS4};
     ghost use Rattle.usbd_core.specs.Device.{core_of, Agrees};
     ghost use Rattle.device_run.specs.Run.{Run};
 
@@ -35,7 +37,7 @@ impl Model for DeviceRun {
 
     ghost view = { λ r. record { set = r.stack.set; core = core_of r.stack; table = r.stack.port.bank.table; log = r.stack.port.bank.log } };
 
-    ghost invariant = { λ r. Agrees r.stack × (r.stack.port.bank.due ≡ []) };
+    ghost invariant = { λ r. Agrees FS4 r.stack × (r.stack.port.bank.due ≡ []) };
 }
 
 impl DeviceRun {
@@ -51,7 +53,7 @@ impl DeviceRun {
         requires { IsAccepted set limits }
         ensures set { IfOk result (λ run. run.set ≡ set) }
         ensures core { IfOk result (λ run. run.core ≡ start) }
-        ensures table { IfOk result (λ run. run.table ≡ opened) }
+        ensures table { IfOk result (λ run. run.table ≡ opened FS4) }
         ensures log { IfOk result (λ run. run.log ≡ []) }
     {
         let _ = blocks;

@@ -1,6 +1,7 @@
 -- A trace's text tells its accesses.
 use Rattle.std.proofs.Common.{◌≡◌, ℕ, List, [], ◌∷◌, ◌++◌, map, refl, ap, sym, ◌∙◌, subst}
 use Rattle.std.specs.List.{AllByRecursion}
+use Rattle.dwc2_regs.specs.declared.access.TheConstants.{FS4}
 use Rattle.dwc2_regs.specs.declared.access.Access.{Access}
 use Rattle.device_table.specs.State.{Table, opened}
 use Rattle.usb_descriptor.specs.Set.{Set}
@@ -52,5 +53,5 @@ turns_told t w (u ∷ us) (v ∷ vs) h k l a e =
 pub trace_is_told : (set : Set) (schedule : List DevLine) (us vs : List Turn) → IsTrace set schedule us → IsTrace set schedule vs
     → trace_text us ≡ trace_text vs → us ≡ vs
 trace_is_told set schedule us vs h k e =
-    turns_told opened opened us vs h.run k.run (h.lines ∙ sym k.lines) (h.answers ∙ sym k.answers)
+    turns_told (opened FS4) (opened FS4) us vs h.run k.run (h.lines ∙ sym k.lines) (h.answers ∙ sym k.answers)
     (sym (lines_again (trace_lines us) (trace_is_plain us)) ∙ ap text_lines e ∙ lines_again (trace_lines vs) (trace_is_plain vs))

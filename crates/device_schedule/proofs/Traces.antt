@@ -2,6 +2,7 @@
 use Rattle.std.proofs.Common.{◌≡◌, ℕ, List, [], ◌∷◌, ◌++◌, Bool, true, false, not, ◌&&◌, ◌||◌, eqb, map, filter, refl, ap, sym, ◌∙◌, append_assoc}
 use Rattle.std.specs.List.{flat_map, list_all, onto_first}
 use Rattle.std.proofs.lemmas.List.{append-nil}
+use Rattle.dwc2_regs.specs.declared.access.TheConstants.{FS4}
 use Rattle.dwc2_regs.specs.declared.access.Access.{Access}
 use Rattle.device_table.specs.State.{Table, opened}
 use Rattle.usb_descriptor.specs.Set.{Set}
@@ -46,14 +47,14 @@ trace_text-more turns turn = ap (flat_map ended) (trace_lines-more turns turn) �
 
 -- a run that goes on by one line
 pub trace-more : (set : Set) (lines : List DevLine) (turns : List Turn) (turn : Turn) → IsTrace set lines turns
-    → turn.answer ≡ core_answer (core_state set lines) turn.line → IsTurn (after_turns opened turns) turn.line turn.accesses turn.answer
+    → turn.answer ≡ core_answer (core_state set lines) turn.line → IsTurn (after_turns (opened FS4) turns) turn.line turn.accesses turn.answer
     → IsTrace set (lines ++ turn.line ∷ []) (turns ++ turn ∷ [])
 trace-more set lines turns turn h answered k = record {
   lines = map-more (λ u. u.line) turns turn ∙ ap (λ t. t ++ turn.line ∷ []) h.lines;
   answers =
       map-more (λ u. u.answer) turns turn ∙ ap (λ t. t ++ turn.answer ∷ []) h.answers ∙ ap (λ a. answers set lines ++ a ∷ []) answered
       ∙ sym (answers-more set lines turn.line);
-  run = are_turns-more opened turns turn h.run k;
+  run = are_turns-more (opened FS4) turns turn h.run k;
 }
 
 -- the accesses and then the answer

@@ -1,6 +1,7 @@
 -- The text of a job: its head, its schedule, and its end.
 use Rattle.std.specs.Prelude.{◌≡◌, ℕ, ◌^◌, ◌≤◌, List, [], ◌∷◌, ◌++◌, length, Bool, true, false, ◌==◌, ◌&&◌, nat_lt, Option, Some, None, is_some, min, if◌then◌else◌, ⊤}
 use Rattle.std.specs.List.{flat_map, AllByRecursion}
+use Rattle.dwc2_regs.specs.declared.access.TheConstants.{FS4}
 use Rattle.usb_descriptor.specs.declared.strings.StringPart.{StringPart}
 use Rattle.usb_descriptor.specs.declared.limits.EpLimits.{EpLimits}
 use Rattle.usb_descriptor.specs.declared.limits.SetFault.{SetFault}
@@ -124,7 +125,7 @@ is_whole lines = ends_head (last_after None lines)
 
 -- the endpoints that the controller has of each direction, and whether report descriptors are judged
 abbrev pub limits : EpLimits
-limits = record { in_top = 3; out_top = 3; report_known = true }
+limits = record { in_top = FS4.in_eps; out_top = FS4.out_eps; report_known = true }
 
 -- the first rule of descriptor sets that a head's set breaks, where it breaks one
 abbrev pub set_fault : List HeadLine → Option SetFault

@@ -1,6 +1,7 @@
 -- The accesses to registers of a device's run, line by line, and their text among the answers.
 use Rattle.std.specs.Prelude.{◌≡◌, ◌≤◌, ℕ, List, [], ◌∷◌, ◌++◌, length, map, filter, Bool, false, not, ◌==◌, ◌&&◌, ◌||◌, if◌then◌else◌}
 use Rattle.std.specs.List.{flat_map, onto_first, AllByRecursion}
+use Rattle.dwc2_regs.specs.declared.access.TheConstants.{FS4}
 use Rattle.dwc2_regs.specs.declared.access.Access.{Access}
 use Rattle.device_table.specs.State.{Table, opened}
 use Rattle.device_table.specs.Bank.{most_accesses}
@@ -54,7 +55,7 @@ AreTurns t (turn ∷ turns) = IsTurn t turn.line turn.accesses turn.answer × Ar
 pub record IsTrace (set : Set) (schedule : List DevLine) (turns : List Turn) : Type 0 where
   pub lines : map (λ turn. turn.line) turns ≡ schedule
   pub answers : map (λ turn. turn.answer) turns ≡ answers set schedule
-  pub run : AreTurns opened turns
+  pub run : AreTurns (opened FS4) turns
 
 -- The text: a line for each access, and behind them that of the answer.
 

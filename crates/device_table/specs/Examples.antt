@@ -1,17 +1,19 @@
 -- Words that are known from outside.
-use Rattle.std.specs.Prelude.{◌≡◌, ℕ, Bool, true, false, List, [], ◌∷◌}
+use Rattle.std.specs.Prelude.{◌≡◌, ◌≤◌, ℕ, Bool, true, false, List, [], ◌∷◌}
 use Rattle.usb_packet.specs.declared.bus.Toggle.TheVariants.{D0, D1}
 use Rattle.usb_packet.specs.declared.bus.BusEvent.{BusEvent}
 use Rattle.usb_packet.specs.declared.bus.BusEvent.TheVariants as event
 use Rattle.usb_packet.specs.declared.bus.BusAnswer.TheVariants as answers
-use Rattle.device_table.specs.State.{Table, first, opened}
+use Rattle.dwc2_regs.specs.declared.access.Profile.{Profile}
+use Rattle.dwc2_regs.specs.declared.access.TheConstants.{FS4}
+use Rattle.device_table.specs.State.{Table, first, opened, plan_words}
 use Rattle.device_table.specs.Read.{read_value, read_table}
 use Rattle.device_table.specs.Write.{write_table}
 use Rattle.device_table.specs.Bus.{bus_answer, after_bus}
 
 -- a reset came, and USBRST was cleared
 abbrev pub awake : Table
-awake = write_table (after_bus first event.Reset) 0x014 0x3000
+awake = write_table (after_bus (first FS4) event.Reset) 0x014 0x3000
 
 -- GET_DESCRIPTOR of the device descriptor, 18 bytes
 abbrev pub setup : BusEvent
@@ -117,11 +119,55 @@ pub record FourthSetup : Type 0 where
   -- nor does a CNAK end the NAK of endpoint 0: NAKSTS stays
   pub naks : read_value (write_table three_setups 0x900 0x04000000) 0x900 ≡ 0x00020000
 
--- GINTMSK, DIEPEMPMSK, GRXFSIZ, DIEPTXF0 and DIEPTXF3 in the opened state
+-- Before the first SETUP: OUT of endpoint 0 is enabled (EPENA and CNAK) once the reset is served. Its toggle is DATA0, which
+-- only a SETUP changes to DATA1. So a DATA1 packet is acknowledged and dropped, and a DATA0 packet lands.
+abbrev pub unasked : Table
+unasked = write_table awake 0xb00 0x84000000
+
+pub record BeforeSetup : Type 0 where
+  pub data1 : bus_answer unasked status_packet ≡ answers.Ack
+  pub dropped : after_bus unasked status_packet ≡ unasked
+  pub data0 : bus_answer unasked (event.Out 0 0 D0 [] true) ≡ answers.Ack
+  pub landed : read_value (after_bus unasked (event.Out 0 0 D0 [] true)) 0x020 ≡ 0x00040000
+
+-- GINTMSK, DIEPEMPMSK, GRXFSIZ and DIEPTXF0 to DIEPTXF4 in the opened state of an `FS4`: the receive FIFO has 84 words, that
+-- of endpoint 0 has 16, and each of three others 32, which makes 196 of its 320
 pub record OpenedWords : Type 0 where
-  pub mask : read_value opened 0x018 ≡ 0xffffffff
-  pub empty_mask : read_value opened 0x834 ≡ 0
-  pub rx_size : read_value opened 0x024 ≡ 84
-  pub tx0_size : read_value opened 0x028 ≡ 0x00100054
-  pub tx3_size : read_value opened 0x10c ≡ 0x002000a4
-  pub sleeps : bus_answer opened setup ≡ answers.NoAnswer
+  pub mask : read_value (opened FS4) 0x018 ≡ 0xffffffff
+  pub empty_mask : read_value (opened FS4) 0x834 ≡ 0
+  pub rx_size : read_value (opened FS4) 0x024 ≡ 84
+  pub tx0_size : read_value (opened FS4) 0x028 ≡ 0x00100054
+  pub tx1_size : read_value (opened FS4) 0x104 ≡ 0x00200064
+  pub tx2_size : read_value (opened FS4) 0x108 ≡ 0x00200084
+  pub tx3_size : read_value (opened FS4) 0x10c ≡ 0x002000a4
+  pub tx4_size : read_value (opened FS4) 0x110 ≡ 0
+  pub words : plan_words FS4 ≡ 196
+  pub fits : plan_words FS4 ≤ 320
+  pub sleeps : bus_answer (opened FS4) setup ≡ answers.NoAnswer
+
+-- HCINTMSK7 is a channel's mask, and HCINTMSK8 no channel's; DTXFSTS3 has 32 free words and DTXFSTS4 none; DOEPTSIZ3 keeps
+-- what is written, and DOEPTSIZ4 reads 0
+pub record OpenedEnds : Type 0 where
+  pub last_channel : read_value (opened FS4) 0x5ec ≡ 0xffffffff
+  pub no_channel : read_value (opened FS4) 0x60c ≡ 0
+  pub last_in : read_value (opened FS4) 0x978 ≡ 32
+  pub no_in : read_value (opened FS4) 0x998 ≡ 0
+  pub last_out : read_value (write_table (opened FS4) 0xb70 5) 0xb70 ≡ 5
+  pub no_out : read_value (write_table (opened FS4) 0xb90 5) 0xb90 ≡ 0
+
+-- a controller with two IN endpoints and one OUT endpoint beside endpoint 0, and one channel: FIFOs of 48, 16, 32 and 32
+-- words
+abbrev pub small : Profile
+small = record { in_eps = 2; out_eps = 1; channels = 1; ram_words = 128 }
+
+pub record SmallWords : Type 0 where
+  pub rx_size : read_value (opened small) 0x024 ≡ 48
+  pub tx2_size : read_value (opened small) 0x108 ≡ 0x00200060
+  pub no_tx3_size : read_value (opened small) 0x10c ≡ 0
+  pub words : plan_words small ≡ 128
+  pub last_in : read_value (opened small) 0x958 ≡ 32
+  pub no_in : read_value (opened small) 0x978 ≡ 0
+  pub last_out : read_value (write_table (opened small) 0xb30 5) 0xb30 ≡ 5
+  pub no_out : read_value (write_table (opened small) 0xb50 5) 0xb50 ≡ 0
+  pub last_channel : read_value (opened small) 0x50c ≡ 0xffffffff
+  pub no_channel : read_value (opened small) 0x52c ≡ 0

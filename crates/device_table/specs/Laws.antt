@@ -4,8 +4,9 @@ use Rattle.usb_packet.specs.declared.bus.Toggle.{Toggle}
 use Rattle.usb_packet.specs.declared.bus.BusEvent.TheVariants as event
 use Rattle.dwc2_regs.specs.declared.TheConstants.{GRXSTSP_NUMBER, GRXSTSP_BYTES, GRXSTSP_PID, GRXSTSP_STATUS}
 use Rattle.dwc2_regs.specs.Field.{field_of}
-use Rattle.dwc2_regs.specs.Register.{Register, gintmsk, grxstsp, grxfsiz, dieptxf0, hptxfsiz, hcfg, haintmsk, dcfg, dctl, diepmsk, doepmsk, daintmsk, diepempmsk, diepctl, diepint, dieptsiz, dtxfsts, doepctl, doepint, doeptsiz, fifo}
-use Rattle.device_table.specs.State.{Table, in_end, out_end}
+use Rattle.dwc2_regs.specs.Register.{Register, gintmsk, grxstsp, grxfsiz, dieptxf0, hptxfsiz, hcfg, haintmsk, dcfg, dctl, diepmsk, doepmsk, daintmsk, diepempmsk, dieptxf, hcchar, hcintmsk, hctsiz, diepctl, diepint, dieptsiz, dtxfsts, doepctl, doepint, doeptsiz, fifo}
+use Rattle.dwc2_regs.specs.declared.access.Profile.{Profile}
+use Rattle.device_table.specs.State.{Table, first, opened, in_end, out_end}
 use Rattle.dwc2_fifo.specs.Words.{words_of}
 use Rattle.device_table.specs.Words.{pid_of, status_word, out_data, kept_bits}
 use Rattle.device_table.specs.Read.{value_read, after_read, read_table}
@@ -40,6 +41,26 @@ SizeReadsBack =
     (x : ℕ) (t : Table) (word : ℕ)
     → (x ≤ length t.ins → value_read (after_write t (dieptsiz x) word) (dieptsiz x) ≡ word)
     × (x ≤ length t.outs → value_read (after_write t (doeptsiz x) word) (doeptsiz x) ≡ word)
+
+-- a controller has as many endpoints, sizes of their FIFOs and channels as its profile says
+pub record IsOf (profile : Profile) (t : Table) : Type 0 where
+  pub ins : length t.ins ≡ profile.in_eps
+  pub outs : length t.outs ≡ profile.out_eps
+  pub sizes : length t.kept.dieptxfs ≡ profile.in_eps
+  pub channels : length t.host.channels ≡ profile.channels
+
+abbrev pub CountsAreKept : Type 0
+CountsAreKept = (profile : Profile) → IsOf profile (first profile) × IsOf profile (opened profile)
+
+-- and the registers of endpoints beyond them read 0, whatever was written
+pub record ReadsNothing (t : Table) (x : ℕ) : Type 0 where
+  pub in_end : length t.ins < x → (value_read t (diepctl x) ≡ 0) × (value_read t (diepint x) ≡ 0) × (value_read t (dieptsiz x) ≡ 0) × (value_read t (dtxfsts x) ≡ 0)
+  pub out_end : length t.outs < x → (value_read t (doepctl x) ≡ 0) × (value_read t (doepint x) ≡ 0) × (value_read t (doeptsiz x) ≡ 0)
+  pub size : length t.kept.dieptxfs < x → value_read t (dieptxf x) ≡ 0
+  pub channel : length t.host.channels ≤ x → (value_read t (hcchar x) ≡ 0) × (value_read t (hcintmsk x) ≡ 0) × (value_read t (hctsiz x) ≡ 0)
+
+abbrev pub BeyondReadsNothing : Type 0
+BeyondReadsNothing = (t : Table) (x : ℕ) → ReadsNothing t x
 
 -- whose register it is: an IN endpoint's, with its FIFO window, or an OUT endpoint's
 pub data Whose : Type 0 where

@@ -2,6 +2,7 @@
 use Rattle.std.specs.Prelude.{ℕ, zero, suc, ◌+◌, ◌*◌, ◌^◌, Bool, false, List, [], ◌∷◌, slice_index_or, slice_set, Option, None, replicate}
 use Rattle.usb_packet.specs.declared.bus.Toggle.{Toggle}
 use Rattle.usb_packet.specs.declared.bus.Toggle.TheVariants.{D0}
+use Rattle.dwc2_regs.specs.declared.access.Profile.{Profile}
 use Rattle.dwc2_fifo.specs.Rx.{Rx, empty_of as rx_empty}
 use Rattle.dwc2_fifo.specs.Tx.{Tx, empty_of as tx_empty}
 
@@ -124,11 +125,11 @@ abbrev pub with_out : Table → ℕ → OutEnd → Table
 with_out t zero end = record t { out0 = end }
 with_out t (suc n) end = record t { outs = slice_set t.outs n end }
 
--- The plan: how many words each FIFO has, by the number of endpoints beside endpoint 0.
+-- The plan: how many words each FIFO has, by the controller's profile.
 
--- twelve words for three SETUPs, and one packet of 64 bytes with its two status words for each OUT endpoint
-abbrev pub rx_depth : ℕ → ℕ
-rx_depth out_eps = 12 + 18 * (out_eps + 1)
+-- twelve words for three SETUPs, and one packet of 64 bytes with its two status words for endpoint 0 and each OUT endpoint
+abbrev pub rx_depth : Profile → ℕ
+rx_depth profile = 12 + 18 * (profile.out_eps + 1)
 
 -- one packet of 64 bytes, and two
 abbrev pub tx0_depth : ℕ
@@ -137,30 +138,24 @@ tx0_depth = 16
 abbrev pub tx_depth : ℕ
 tx_depth = 32
 
--- the endpoints in each direction beside endpoint 0, and the channels: of OTG_FS
-abbrev pub in_count : ℕ
-in_count = 3
-
-abbrev pub out_count : ℕ
-out_count = 3
-
-abbrev pub channel_count : ℕ
-channel_count = 8
+-- all of them
+abbrev pub plan_words : Profile → ℕ
+plan_words profile = rx_depth profile + tx0_depth + profile.in_eps * tx_depth
 
 abbrev pub no_channel : Channel
 no_channel = record { hcchar = 0; hcintmsk = 0; hctsiz = 0 }
 
--- at the start all is 0
-abbrev pub first : Table
-first = record {
+-- at the start all is 0, and there are as many endpoints and channels as the profile has
+abbrev pub first : Profile → Table
+first profile = record {
   core = record { awake = false; usbrst = false; enumdne = false; unserved = 0; landed = None };
-  kept = record { grstctl = 0; gintmsk = 0; grxfsiz = 0; dieptxf0 = 0; dieptxfs = replicate in_count 0; dcfg = 0; dctl = 0; diepmsk = 0; doepmsk = 0; daintmsk = 0; diepempmsk = 0 };
-  host = record { hptxfsiz = 0; hcfg = 0; haintmsk = 0; hprt = 0; channels = replicate channel_count no_channel };
-  rx = rx_empty (rx_depth out_count);
+  kept = record { grstctl = 0; gintmsk = 0; grxfsiz = 0; dieptxf0 = 0; dieptxfs = replicate profile.in_eps 0; dcfg = 0; dctl = 0; diepmsk = 0; doepmsk = 0; daintmsk = 0; diepempmsk = 0 };
+  host = record { hptxfsiz = 0; hcfg = 0; haintmsk = 0; hprt = 0; channels = replicate profile.channels no_channel };
+  rx = rx_empty (rx_depth profile);
   in0 = in_end_of tx0_depth;
-  ins = replicate in_count (in_end_of tx_depth);
+  ins = replicate profile.in_eps (in_end_of tx_depth);
   out0 = no_out_end;
-  outs = replicate out_count no_out_end;
+  outs = replicate profile.out_eps no_out_end;
 }
 
 -- The opened state: every mask is all ones but DIEPEMPMSK, and the size registers are the plan's, laid end to end from word
@@ -178,16 +173,16 @@ abbrev pub sizes_from : ℕ → ℕ → ℕ → List ℕ
 sizes_from zero start depth = []
 sizes_from (suc n) start depth = fifo_size start depth ∷ sizes_from n (start + depth) depth
 
-abbrev pub opened : Table
-opened = record first {
-  kept = record first.kept {
+abbrev pub opened : Profile → Table
+opened profile = record (first profile) {
+  kept = record (first profile).kept {
     gintmsk = all_ones;
     diepmsk = all_ones;
     doepmsk = all_ones;
     daintmsk = all_ones;
-    grxfsiz = rx_depth out_count;
-    dieptxf0 = fifo_size (rx_depth out_count) tx0_depth;
-    dieptxfs = sizes_from in_count (rx_depth out_count + tx0_depth) tx_depth;
+    grxfsiz = rx_depth profile;
+    dieptxf0 = fifo_size (rx_depth profile) tx0_depth;
+    dieptxfs = sizes_from profile.in_eps (rx_depth profile + tx0_depth) tx_depth;
   };
-  host = record first.host { haintmsk = all_ones; channels = replicate channel_count (record no_channel { hcintmsk = all_ones }) };
+  host = record (first profile).host { haintmsk = all_ones; channels = replicate profile.channels (record no_channel { hcintmsk = all_ones }) };
 }

@@ -1,12 +1,18 @@
 //! Laws of the controller's steps. The functions do nothing.
-ghost use Rattle.device_table.specs.Laws.{PlainReadsBack, SizeReadsBack, OthersStay, ResetLeaves, CnakWaits, StatusReadsBack, BusLeavesOthers, LandingComesOut, NothingDue, KeptBits};
-ghost use Rattle.device_table.specs.Examples.{SetupWords, PacketStatus, DescriptorRead, FourthSetup, OpenedWords};
+ghost use Rattle.device_table.specs.Laws.{PlainReadsBack, SizeReadsBack, CountsAreKept, BeyondReadsNothing, OthersStay, ResetLeaves, CnakWaits, StatusReadsBack, BusLeavesOthers, LandingComesOut, NothingDue, KeptBits};
+ghost use Rattle.device_table.specs.Examples.{SetupWords, PacketStatus, DescriptorRead, FourthSetup, BeforeSetup, OpenedWords, OpenedEnds, SmallWords};
 
 /// A register that keeps what is written reads as it was written: masks, sizes of FIFOs, DCFG, DCTL and the host's
 /// configuration, and the transfer size of each endpoint that there is.
 pub fn kept_registers_read_back()
     ensures plain { PlainReadsBack }
     ensures sizes { SizeReadsBack }
+{}
+
+/// At the start and once opened, a controller has the endpoints and channels of its profile. The registers of others read 0.
+pub fn profile_counts()
+    ensures counts { CountsAreKept }
+    ensures beyond { BeyondReadsNothing }
 {}
 
 /// A write to one endpoint's registers or FIFO window changes that endpoint in that direction, and nothing else.
@@ -58,9 +64,17 @@ pub fn worked_words()
 {}
 
 /// A device descriptor that is read through registers, with a lost acknowledgement and a repeated status packet; a fourth
-/// SETUP; and the registers of the opened state.
+/// SETUP; and OUT packets before the first SETUP.
 pub fn worked_answers()
     ensures descriptor { DescriptorRead }
     ensures fourth { FourthSetup }
-    ensures opened { OpenedWords }
+    ensures before { BeforeSetup }
+{}
+
+/// The opened state of an `FS4`: its plan of 84, 16, 32, 32 and 32 words, and which endpoints and channels there are. The
+/// same of a smaller controller with fewer OUT than IN endpoints.
+pub fn worked_profiles()
+    ensures words { OpenedWords }
+    ensures ends { OpenedEnds }
+    ensures small { SmallWords }
 {}

@@ -1,8 +1,10 @@
 -- The registers that a driver writes at its start: masks and the sizes of FIFOs.
-use Rattle.std.specs.Prelude.{ℕ}
+use Rattle.std.specs.Prelude.{ℕ, zero, suc, ◌+◌}
+use Rattle.dwc2_regs.specs.declared.access.Profile.{Profile}
 use Rattle.dwc2_regs.specs.Register.{gintmsk, grxfsiz, dieptxf0, haintmsk, diepmsk, doepmsk, daintmsk, dieptxf, hcintmsk}
-use Rattle.device_table.specs.State.{Table, all_ones, fifo_size}
+use Rattle.device_table.specs.State.{Table, all_ones, fifo_size, rx_depth, tx0_depth, tx_depth}
 use Rattle.device_table.specs.Write.{after_write}
+use Rattle.device_relation.specs.Run.{each_from}
 
 unfoldable pub masks_written : Table → Table
 masks_written t =
@@ -11,10 +13,15 @@ masks_written t =
 abbrev pub channel_masked : Table → ℕ → Table
 channel_masked t x = after_write t (hcintmsk x) all_ones
 
-unfoldable pub channels_masked : Table → Table
-channels_masked t =
-    channel_masked (channel_masked (channel_masked (channel_masked (channel_masked (channel_masked (channel_masked (channel_masked t 0) 1) 2) 3) 4) 5) 6) 7
+unfoldable pub channels_masked : Profile → Table → Table
+channels_masked profile t = each_from channel_masked profile.channels 0 t
 
-unfoldable pub sizes_written : Table → Table
-sizes_written t =
-    after_write (after_write (after_write (after_write (after_write t grxfsiz 84) dieptxf0 (fifo_size 84 16)) (dieptxf 1) (fifo_size 100 32)) (dieptxf 2) (fifo_size 132 32)) (dieptxf 3) (fifo_size 164 32)
+-- so many transmit FIFOs of endpoints from this number on, laid end to end from this word on
+abbrev pub tx_sized : ℕ → ℕ → ℕ → Table → Table
+tx_sized zero x start t = t
+tx_sized (suc n) x start t = tx_sized n (x + 1) (start + tx_depth) (after_write t (dieptxf x) (fifo_size start tx_depth))
+
+unfoldable pub sizes_written : Profile → Table → Table
+sizes_written profile t =
+    let rx = rx_depth profile in
+    tx_sized profile.in_eps 1 (rx + tx0_depth) (after_write (after_write t grxfsiz rx) dieptxf0 (fifo_size rx tx0_depth))

@@ -1,5 +1,6 @@
 -- The notes of a driver, in order.
 use Rattle.std.specs.Prelude.{◌≡◌, ℕ, Bool, true, false, List, Option, Some, None}
+use Rattle.dwc2_regs.specs.declared.access.Profile.{Profile}
 use Rattle.device_machine.specs.declared.control.Stage.{Stage}
 use Rattle.device_machine.specs.declared.control.Stage.TheVariants.{Sent, Came}
 use Rattle.device_relation.specs.Software.{Software, Joint}
@@ -26,5 +27,5 @@ abbrev pub without_note : Software → Software
 without_note s = rest_of s s.reset s.finished
 
 -- taking a note leaves the device, and controller and software agree as before
-abbrev pub NotesKeep : Type 0
-NotesKeep = (j : Joint) → (abstract (record j { software = without_note j.software }) ≡ abstract j) × (IsSound j → IsSound (record j { software = without_note j.software }))
+abbrev pub NotesKeep : Profile → Type 0
+NotesKeep profile = (j : Joint) → (abstract (record j { software = without_note j.software }) ≡ abstract j) × (IsSound profile j → IsSound profile (record j { software = without_note j.software }))

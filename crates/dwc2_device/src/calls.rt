@@ -1,5 +1,6 @@
 //! The calls between handler runs.
 ghost use Rattle.std.specs.Prelude.{◌≡◌, ℕ, ◌+◌, ◌≤◌, ◌<◌, [], true, false, IsTrue, Some, None, length, slice_index};
+ghost use Rattle.dwc2_regs.specs.declared.access.TheConstants.{FS4};
 ghost use Rattle.dwc2_regs.specs.Register.{diepctl, doepctl};
 ghost use Rattle.device_table.specs.Write.{after_write};
 ghost use Rattle.device_relation.specs.Relation.{IsSound, IsPacket};
@@ -20,13 +21,13 @@ impl<R: Regs + Drop> DevPort<R> {
     /// data for the host, with which the status stage is armed (USB 2.0, 8.5.3.3). A control transfer has to run: a SETUP
     /// was noted since the last reset, and nothing is on its way on endpoint 0.
     pub fn start_ep0(&mut self, packet: &Packet, last: bool)
-        requires sound { IsSound (joint self.old) }
+        requires sound { IsSound FS4 (joint self.old) }
         requires free { IsTrue (may_start (port_of (joint self.old)).bus.side) }
         requires heard { (port_of (joint self.old)).heard ≡ true }
         requires spare { 2 ≤ self.old.bank.spare }
         requires still { self.old.bank.due ≡ [] }
         ensures port { port_of (joint self.new) ≡ started (port_of (joint self.old)) packet.now last }
-        ensures sound { IsSound (joint self.new) }
+        ensures sound { IsSound FS4 (joint self.new) }
         ensures spare { self.old.bank.spare ≤ self.new.bank.spare + 2 }
         ensures still { self.new.bank.due ≡ [] }
         ensures goes { GoesOn self.old.bank self.new.bank }
@@ -53,13 +54,13 @@ impl<R: Regs + Drop> DevPort<R> {
 
     /// Endpoint 0 is armed for a packet from the host. What has to hold before is as for [`DevPort::start_ep0`].
     pub fn arm_ep0(&mut self)
-        requires sound { IsSound (joint self.old) }
+        requires sound { IsSound FS4 (joint self.old) }
         requires free { IsTrue (may_start (port_of (joint self.old)).bus.side) }
         requires heard { (port_of (joint self.old)).heard ≡ true }
         requires spare { 3 ≤ self.old.bank.spare }
         requires still { self.old.bank.due ≡ [] }
         ensures port { port_of (joint self.new) ≡ armed (port_of (joint self.old)) }
-        ensures sound { IsSound (joint self.new) }
+        ensures sound { IsSound FS4 (joint self.new) }
         ensures spare { self.old.bank.spare ≤ self.new.bank.spare + 3 }
         ensures still { self.new.bank.due ≡ [] }
         ensures goes { GoesOn self.old.bank self.new.bank }
@@ -83,12 +84,12 @@ impl<R: Regs + Drop> DevPort<R> {
 
     /// Endpoint 0 answers STALL until the next SETUP (USB 2.0, 8.5.3.4). Nothing may be on its way on it.
     pub fn stall_ep0(&mut self)
-        requires sound { IsSound (joint self.old) }
+        requires sound { IsSound FS4 (joint self.old) }
         requires free { IsTrue (may_start (port_of (joint self.old)).bus.side) }
         requires spare { 2 ≤ self.old.bank.spare }
         requires still { self.old.bank.due ≡ [] }
         ensures port { port_of (joint self.new) ≡ stalled (port_of (joint self.old)) }
-        ensures sound { IsSound (joint self.new) }
+        ensures sound { IsSound FS4 (joint self.new) }
         ensures spare { self.old.bank.spare ≤ self.new.bank.spare + 2 }
         ensures still { self.new.bank.due ≡ [] }
         ensures goes { GoesOn self.old.bank self.new.bank }
@@ -135,10 +136,10 @@ impl<R: Regs + Drop> DevPort<R> {
     /// The device has this address, at most 127, from the handler run on that finds the packet acknowledged which endpoint 0
     /// has for the host (USB 2.0, 9.4.6). A call that gives endpoint 0 something else to do forgets it.
     pub fn set_address(&mut self, addr: u8)
-        requires sound { IsSound (joint self.old) }
+        requires sound { IsSound FS4 (joint self.old) }
         requires address { addr < 128 }
         ensures port { port_of (joint self.new) ≡ addressed (port_of (joint self.old)) addr }
-        ensures sound { IsSound (joint self.new) }
+        ensures sound { IsSound FS4 (joint self.new) }
         ensures bank { self.new.bank ≡ self.old.bank }
     {
         self.keep_address(addr);
@@ -146,11 +147,11 @@ impl<R: Regs + Drop> DevPort<R> {
 
     /// All endpoints but endpoint 0 are closed.
     pub fn close_all(&mut self)
-        requires sound { IsSound (joint self.old) }
+        requires sound { IsSound FS4 (joint self.old) }
         requires spare { 6 ≤ self.old.bank.spare }
         requires still { self.old.bank.due ≡ [] }
         ensures port { port_of (joint self.new) ≡ without_endpoints (port_of (joint self.old)) }
-        ensures sound { IsSound (joint self.new) }
+        ensures sound { IsSound FS4 (joint self.new) }
         ensures spare { self.old.bank.spare ≤ self.new.bank.spare + 6 }
         ensures still { self.new.bank.due ≡ [] }
         ensures goes { GoesOn self.old.bank self.new.bank }
@@ -161,7 +162,7 @@ impl<R: Regs + Drop> DevPort<R> {
     fn close(&mut self)
         requires spare { 6 ≤ self.old.bank.spare }
         requires still { self.old.bank.due ≡ [] }
-        ensures joint { joint self.new ≡ run_close (joint self.old) }
+        ensures joint { joint self.new ≡ run_close FS4 (joint self.old) }
         ensures spare { self.old.bank.spare ≤ self.new.bank.spare + 6 }
         ensures still { self.new.bank.due ≡ [] }
         ensures goes { GoesOn self.old.bank self.new.bank }

@@ -1,5 +1,6 @@
 //! The endpoints other than 0: each belongs to the core, and answers NAK while it is open.
 ghost use Rattle.std.specs.Prelude.{◌≡◌, ◌+◌, ◌-◌, ◌*◌, ◌^◌, ◌≤◌, ◌<◌, ◌⊎◌, [], ◌∷◌, ◌++◌, false, length};
+ghost use Rattle.dwc2_regs.specs.declared.access.TheConstants.{FS4};
 ghost use Rattle.dwc2_regs.specs.Register.{diepctl, doepctl};
 ghost use Rattle.device_table.specs.Write.{after_write};
 ghost use Rattle.device_relation.specs.Relation.{IsSound};
@@ -18,8 +19,8 @@ impl<R: Regs + Drop> DevPort<R> {
     /// Opens an endpoint with a number from 1 to 3 and packets of 1 to 64 bytes. None with its address may be open, and fewer
     /// than 30 may be.
     pub fn open_ep(&mut self, ep: &Endpoint)
-        requires sound { IsSound (joint self.old) }
-        requires number { ((1 ≤ ep.now.addr) × (ep.now.addr ≤ 3)) ⊎ ((129 ≤ ep.now.addr) × (ep.now.addr ≤ 131)) }
+        requires sound { IsSound FS4 (joint self.old) }
+        requires number { ((1 ≤ ep.now.addr) × (ep.now.addr ≤ FS4.out_eps)) ⊎ ((129 ≤ ep.now.addr) × (ep.now.addr ≤ 128 + FS4.in_eps)) }
         requires some { 1 ≤ ep.now.size }
         requires most { ep.now.size ≤ 64 }
         requires shut { has_address ep.now.addr self.old.software.open_ones ≡ false }
@@ -27,7 +28,7 @@ impl<R: Regs + Drop> DevPort<R> {
         requires spare { 1 ≤ self.old.bank.spare }
         requires still { self.old.bank.due ≡ [] }
         ensures port { port_of (joint self.new) ≡ with_endpoint (port_of (joint self.old)) ep.now }
-        ensures sound { IsSound (joint self.new) }
+        ensures sound { IsSound FS4 (joint self.new) }
         ensures spare { self.old.bank.spare ≤ self.new.bank.spare + 1 }
         ensures still { self.new.bank.due ≡ [] }
         ensures goes { GoesOn self.old.bank self.new.bank }
@@ -40,7 +41,7 @@ impl<R: Regs + Drop> DevPort<R> {
     }
 
     fn open_out(&mut self, ep: &Endpoint)
-        requires sound { IsSound (joint self.old) }
+        requires sound { IsSound FS4 (joint self.old) }
         requires low { 1 ≤ ep.now.addr }
         requires high { ep.now.addr ≤ 3 }
         requires some { 1 ≤ ep.now.size }
@@ -50,7 +51,7 @@ impl<R: Regs + Drop> DevPort<R> {
         requires spare { 1 ≤ self.old.bank.spare }
         requires still { self.old.bank.due ≡ [] }
         ensures port { port_of (joint self.new) ≡ with_endpoint (port_of (joint self.old)) ep.now }
-        ensures sound { IsSound (joint self.new) }
+        ensures sound { IsSound FS4 (joint self.new) }
         ensures spare { self.old.bank.spare ≤ self.new.bank.spare + 1 }
         ensures still { self.new.bank.due ≡ [] }
         ensures goes { GoesOn self.old.bank self.new.bank }
@@ -74,7 +75,7 @@ impl<R: Regs + Drop> DevPort<R> {
     }
 
     fn open_in(&mut self, ep: &Endpoint)
-        requires sound { IsSound (joint self.old) }
+        requires sound { IsSound FS4 (joint self.old) }
         requires low { 129 ≤ ep.now.addr }
         requires high { ep.now.addr ≤ 131 }
         requires some { 1 ≤ ep.now.size }
@@ -84,7 +85,7 @@ impl<R: Regs + Drop> DevPort<R> {
         requires spare { 1 ≤ self.old.bank.spare }
         requires still { self.old.bank.due ≡ [] }
         ensures port { port_of (joint self.new) ≡ with_endpoint (port_of (joint self.old)) ep.now }
-        ensures sound { IsSound (joint self.new) }
+        ensures sound { IsSound FS4 (joint self.new) }
         ensures spare { self.old.bank.spare ≤ self.new.bank.spare + 1 }
         ensures still { self.new.bank.due ≡ [] }
         ensures goes { GoesOn self.old.bank self.new.bank }

@@ -1,5 +1,6 @@
 //! The handler run.
 ghost use Rattle.std.specs.Prelude.{◌≡◌, ℕ, ◌+◌, ◌*◌, ◌≤◌, ◌<◌, [], true, false, Some, None};
+ghost use Rattle.dwc2_regs.specs.declared.access.TheConstants.{FS4};
 ghost use Rattle.dwc2_regs.specs.declared.TheConstants.{GINTSTS_USBRST};
 ghost use Rattle.dwc2_regs.specs.Register.{gintsts, diepint};
 ghost use Rattle.device_table.specs.Read.{value_read};
@@ -21,12 +22,12 @@ impl<R: Regs + Drop> DevPort<R> {
     /// One handler run. It serves a reset, and wakes with its last access; or notes a stage that finished, sets the address where that was to bring one, and
     /// else notes the last SETUP or loads the packet that waits.
     pub fn run_handler(&mut self)
-        requires sound { IsSound (joint self.old) }
+        requires sound { IsSound FS4 (joint self.old) }
         requires spare { 400 ≤ self.old.bank.spare }
         requires still { self.old.bank.due ≡ [] }
         ensures port { port_of (joint self.new) ≡ after_handler (port_of (joint self.old)) }
         ensures wakes { (port_of (joint self.old)).bus.reset ≡ true → Wakes self.new.bank }
-        ensures sound { IsSound (joint self.new) }
+        ensures sound { IsSound FS4 (joint self.new) }
         ensures spare { self.old.bank.spare ≤ self.new.bank.spare + 200 }
         ensures still { self.new.bank.due ≡ [] }
         ensures goes { GoesOn self.old.bank self.new.bank }
@@ -37,7 +38,7 @@ impl<R: Regs + Drop> DevPort<R> {
     pub(crate) fn handle(&mut self)
         requires spare { 200 ≤ self.old.bank.spare }
         requires still { self.old.bank.due ≡ [] }
-        ensures joint { joint self.new ≡ run (joint self.old) }
+        ensures joint { joint self.new ≡ run FS4 (joint self.old) }
         ensures wakes { flag (value_read self.old.bank.table gintsts) GINTSTS_USBRST ≡ true → Wakes self.new.bank }
         ensures spare { self.old.bank.spare ≤ self.new.bank.spare + 200 }
         ensures still { self.new.bank.due ≡ [] }

@@ -1,8 +1,9 @@
 //! The driver at its start.
 ghost use Rattle.std.specs.Prelude.{◌≡◌, ◌+◌, ◌*◌, ◌≤◌, [], false};
+ghost use Rattle.dwc2_regs.specs.declared.access.TheConstants.{FS4};
 ghost use Rattle.dwc2_regs.specs.Register.{dieptxf};
 ghost use Rattle.device_machine.specs.Bus.{unconfigured};
-ghost use Rattle.device_table.specs.State.{first, rx_depth, tx0_depth, tx_depth, in_count, out_count, fifo_size};
+ghost use Rattle.device_table.specs.State.{first, rx_depth, tx0_depth, tx_depth, fifo_size};
 ghost use Rattle.device_table.specs.Write.{after_write};
 ghost use Rattle.device_relation.specs.Software.{unused};
 ghost use Rattle.device_relation.specs.Relation.{IsSound, abstract};
@@ -25,14 +26,14 @@ impl<R: Regs + Drop> DevPort<R> {
     /// Opens a controller that is at its start: no interrupt is masked but that of an empty transmit FIFO, and the FIFOs have
     /// the sizes of the plan of an `FS4`. Controller and driver are then the device at its start.
     pub fn init(&mut self, plan: &FifoPlan)
-        requires plan { plan.now ≡ record { rx = rx_depth out_count; tx0 = tx0_depth; tx = tx_depth; ins = in_count } }
-        requires table { self.old.bank.table ≡ first }
+        requires plan { plan.now ≡ record { rx = rx_depth FS4; tx0 = tx0_depth; tx = tx_depth; ins = FS4.in_eps } }
+        requires table { self.old.bank.table ≡ first FS4 }
         requires software { self.old.software ≡ unused false }
         requires spare { 18 ≤ self.old.bank.spare }
         requires still { self.old.bank.due ≡ [] }
-        ensures joint { joint self.new ≡ at_start }
+        ensures joint { joint self.new ≡ at_start FS4 }
         ensures device { abstract (joint self.new) ≡ unconfigured false }
-        ensures sound { IsSound (joint self.new) }
+        ensures sound { IsSound FS4 (joint self.new) }
         ensures spare { self.old.bank.spare ≤ self.new.bank.spare + 18 }
         ensures still { self.new.bank.due ≡ [] }
         ensures goes { GoesOn self.old.bank self.new.bank }
@@ -42,12 +43,12 @@ impl<R: Regs + Drop> DevPort<R> {
 
     #[tactic(auto, using(crate::proofs::Opened::opened_joint))]
     fn write_all(&mut self, plan: &FifoPlan)
-        requires plan { plan.now ≡ record { rx = rx_depth out_count; tx0 = tx0_depth; tx = tx_depth; ins = in_count } }
-        requires table { self.old.bank.table ≡ first }
+        requires plan { plan.now ≡ record { rx = rx_depth FS4; tx0 = tx0_depth; tx = tx_depth; ins = FS4.in_eps } }
+        requires table { self.old.bank.table ≡ first FS4 }
         requires software { self.old.software ≡ unused false }
         requires spare { 18 ≤ self.old.bank.spare }
         requires still { self.old.bank.due ≡ [] }
-        ensures joint { joint self.new ≡ at_start }
+        ensures joint { joint self.new ≡ at_start FS4 }
         ensures spare { self.old.bank.spare ≤ self.new.bank.spare + 18 }
         ensures still { self.new.bank.due ≡ [] }
         ensures goes { GoesOn self.old.bank self.new.bank }
@@ -90,7 +91,7 @@ impl<R: Regs + Drop> DevPort<R> {
     fn mask_channels(&mut self)
         requires spare { 8 ≤ self.old.bank.spare }
         requires still { self.old.bank.due ≡ [] }
-        ensures joint { joint self.new ≡ with_table (joint self.old) (channels_masked self.old.bank.table) }
+        ensures joint { joint self.new ≡ with_table (joint self.old) (channels_masked FS4 self.old.bank.table) }
         ensures spare { self.old.bank.spare ≤ self.new.bank.spare + 8 }
         ensures still { self.new.bank.due ≡ [] }
         ensures goes { GoesOn self.old.bank self.new.bank }
@@ -121,10 +122,10 @@ impl<R: Regs + Drop> DevPort<R> {
     /// The FIFOs are laid end to end from word 0 on.
     #[tactic(auto, unfolding(crate::specs::Init::sizes_written))]
     fn write_sizes(&mut self, plan: &FifoPlan)
-        requires plan { plan.now ≡ record { rx = rx_depth out_count; tx0 = tx0_depth; tx = tx_depth; ins = in_count } }
+        requires plan { plan.now ≡ record { rx = rx_depth FS4; tx0 = tx0_depth; tx = tx_depth; ins = FS4.in_eps } }
         requires spare { 5 ≤ self.old.bank.spare }
         requires still { self.old.bank.due ≡ [] }
-        ensures joint { joint self.new ≡ with_table (joint self.old) (sizes_written self.old.bank.table) }
+        ensures joint { joint self.new ≡ with_table (joint self.old) (sizes_written FS4 self.old.bank.table) }
         ensures spare { self.old.bank.spare ≤ self.new.bank.spare + 5 }
         ensures still { self.new.bank.due ≡ [] }
         ensures goes { GoesOn self.old.bank self.new.bank }

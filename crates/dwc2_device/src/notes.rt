@@ -1,5 +1,6 @@
 //! What a handler run found.
 ghost use Rattle.std.specs.Prelude.{◌≡◌};
+ghost use Rattle.dwc2_regs.specs.declared.access.TheConstants.{FS4};
 ghost use Rattle.dwc2_device.specs.Notes.{first_note, without_note, NotesKeep};
 
 use crate::DevPort;
@@ -22,7 +23,7 @@ pub enum Note {
 
 /// A note that is taken leaves the device that controller and software are. The function does nothing.
 pub fn notes_keep()
-    ensures { NotesKeep }
+    ensures { NotesKeep FS4 }
 {}
 
 impl<R: Regs + Drop> DevPort<R> {

@@ -1,5 +1,6 @@
 //! A bus reset, served.
 ghost use Rattle.std.specs.Prelude.{◌≡◌, ◌+◌, ◌*◌, ◌≤◌, [], true};
+ghost use Rattle.dwc2_regs.specs.declared.access.TheConstants.{FS4};
 ghost use Rattle.dwc2_regs.specs.Register.{dcfg, grstctl, gintsts};
 ghost use Rattle.device_table.specs.Write.{after_write};
 ghost use Rattle.device_relation.specs.Software.{unused};
@@ -19,7 +20,7 @@ impl<R: Regs + Drop> DevPort<R> {
     pub(crate) fn serve_reset(&mut self)
         requires spare { 27 ≤ self.old.bank.spare }
         requires still { self.old.bank.due ≡ [] }
-        ensures joint { joint self.new ≡ record { table = reset_served self.old.bank.table; software = unused true } }
+        ensures joint { joint self.new ≡ record { table = reset_served FS4 self.old.bank.table; software = unused true } }
         ensures wakes { Wakes self.new.bank }
         ensures spare { self.old.bank.spare ≤ self.new.bank.spare + 27 }
         ensures still { self.new.bank.due ≡ [] }
@@ -99,7 +100,7 @@ impl<R: Regs + Drop> DevPort<R> {
     fn close_pipes(&mut self)
         requires spare { 8 ≤ self.old.bank.spare }
         requires still { self.old.bank.due ≡ [] }
-        ensures joint { joint self.new ≡ with_table (joint self.old) (pipes_closed self.old.bank.table) }
+        ensures joint { joint self.new ≡ with_table (joint self.old) (pipes_closed FS4 self.old.bank.table) }
         ensures spare { self.old.bank.spare ≤ self.new.bank.spare + 8 }
         ensures still { self.new.bank.due ≡ [] }
         ensures goes { GoesOn self.old.bank self.new.bank }
@@ -112,7 +113,7 @@ impl<R: Regs + Drop> DevPort<R> {
     pub(crate) fn close_others(&mut self)
         requires spare { 6 ≤ self.old.bank.spare }
         requires still { self.old.bank.due ≡ [] }
-        ensures joint { joint self.new ≡ with_table (joint self.old) (others_closed self.old.bank.table) }
+        ensures joint { joint self.new ≡ with_table (joint self.old) (others_closed FS4 self.old.bank.table) }
         ensures spare { self.old.bank.spare ≤ self.new.bank.spare + 6 }
         ensures still { self.new.bank.due ≡ [] }
         ensures goes { GoesOn self.old.bank self.new.bank }
@@ -139,7 +140,7 @@ impl<R: Regs + Drop> DevPort<R> {
     fn clear_all(&mut self)
         requires spare { 8 ≤ self.old.bank.spare }
         requires still { self.old.bank.due ≡ [] }
-        ensures joint { joint self.new ≡ with_table (joint self.old) (all_cleared self.old.bank.table) }
+        ensures joint { joint self.new ≡ with_table (joint self.old) (all_cleared FS4 self.old.bank.table) }
         ensures spare { self.old.bank.spare ≤ self.new.bank.spare + 8 }
         ensures still { self.new.bank.due ≡ [] }
         ensures goes { GoesOn self.old.bank self.new.bank }

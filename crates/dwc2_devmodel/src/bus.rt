@@ -6,7 +6,8 @@ ghost use Rattle.dwc2_fifo.specs.Words.{word_count};
 ghost use Rattle.dwc2_fifo.specs.Rx.{room_of};
 ghost use Rattle.dwc2_devmodel.specs.declared.bus.OutOutcome.TheVariants.{Lands};
 ghost use Rattle.dwc2_devmodel.specs.Outcomes.{out_outcome_of, in_outcome_of, HasToggle};
-ghost use Rattle.device_table.specs.State.{out_count, out_end, with_out, in_end, with_in};
+ghost use Rattle.dwc2_regs.specs.declared.access.TheConstants.{FS4};
+ghost use Rattle.device_table.specs.State.{out_end, with_out, in_end, with_in};
 ghost use Rattle.device_table.specs.Words.{status_word};
 ghost use Rattle.device_table.specs.Write.{emptied};
 ghost use Rattle.device_table.specs.Bus.{hears, hears_setup, hears_out, has_room, is_repeated, after_reset, after_setup, setup_entries, out_entries, out_landed, landed_on_0, after_landing, bus_answer, after_bus, in_acked, out_outcome, in_outcome};
@@ -147,7 +148,7 @@ impl Controller {
     fn out_outcome(&self, addr: u8, ep: u8, toggle: Toggle, packet: &Packet, ok: bool) -> OutOutcome
         ensures value { out_outcome_of result ≡ out_outcome self.now addr ep toggle packet.now ok }
         ensures room { result ≡ Lands → 2 + word_count (length packet.now) ≤ room_of self.now.rx }
-        ensures number { result ≡ Lands → ep ≤ out_count }
+        ensures number { result ≡ Lands → ep ≤ FS4.out_eps }
     {
         let Some(end) = self.out_end(ep) else {
             return OutOutcome::Unheard;
@@ -204,7 +205,7 @@ impl Controller {
 
     fn land(&mut self, ep: u8, toggle: Toggle, packet: &Packet)
         requires room { 2 + word_count (length packet.now) ≤ room_of self.old.rx }
-        requires number { ep ≤ out_count }
+        requires number { ep ≤ FS4.out_eps }
         ensures { self.new ≡ after_landing self.old ep toggle packet.now }
     {
         self.push_packet(ep, toggle, packet);
@@ -221,7 +222,7 @@ impl Controller {
     // The entries of an OUT packet: its bytes, and its end.
     fn push_packet(&mut self, ep: u8, toggle: Toggle, packet: &Packet)
         requires room { 2 + word_count (length packet.now) ≤ room_of self.old.rx }
-        requires number { ep ≤ out_count }
+        requires number { ep ≤ FS4.out_eps }
         ensures { self.new ≡ record self.old { rx = record self.old.rx { entries = self.old.rx.entries ++ out_entries ep toggle packet.now } } }
     {
         let bytes = packet.bytes();

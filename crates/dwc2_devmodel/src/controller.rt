@@ -1,5 +1,6 @@
 ghost use Rattle.std.specs.Prelude.{◌≡◌, ◌≢◌, ℕ, ◌≤◌, ◌<◌, IsSome, IfSome, IfNone};
-ghost use Rattle.device_table.specs.State.{first, in_count, out_count, in_end, in_end_of, out_end, no_out_end};
+ghost use Rattle.dwc2_regs.specs.declared.access.TheConstants.{FS4};
+ghost use Rattle.device_table.specs.State.{first, in_end, in_end_of, out_end, no_out_end};
 ghost use Rattle.device_table.specs.Write.{setup_lies, cnak_acts};
 ghost use Rattle.device_table.specs.Bus.{setup_waits};
 
@@ -32,20 +33,21 @@ pub struct Controller {
 
 impl Model for Controller {
     ghost use Rattle.std.specs.Prelude.{◌≡◌, length};
-    ghost use Rattle.device_table.specs.State.{Table, in_count, out_count};
+    ghost use Rattle.dwc2_regs.specs.declared.access.TheConstants.{FS4};
+    ghost use Rattle.device_table.specs.State.{Table};
     ghost use Rattle.dwc2_devmodel.specs.Setups.{IsCounted};
 
     ghost Value = { Table };
 
     ghost view = { λ c. record { core = c.core; kept = c.kept; host = c.host; rx = c.rx; in0 = c.in0; ins = c.ins; out0 = c.out0; outs = c.outs } };
 
-    ghost invariant = { λ c. IsCounted c.rx c.setups × (length c.ins ≡ in_count) × (length c.outs ≡ out_count) };
+    ghost invariant = { λ c. IsCounted FS4 c.rx c.setups × (length c.ins ≡ FS4.in_eps) × (length c.outs ≡ FS4.out_eps) };
 }
 
 impl Controller {
     /// All is 0 at the start, and the FIFOs are empty.
     pub fn new() -> Controller
-        ensures { result ≡ first }
+        ensures { result ≡ first FS4 }
     {
         let mut rx = RxFifo::new();
         rx.set_depth(RX_WORDS);
@@ -70,7 +72,7 @@ impl Controller {
     pub fn in_end(&self, x: u8) -> Option<&InEndpoint>
         ensures some { IfSome result (λ end. end.now ≡ in_end self.now x) }
         ensures none { IfNone result ((in_end self.now x ≡ in_end_of 0) × (x ≢ 0)) }
-        ensures number { IsSome result → x ≤ in_count }
+        ensures number { IsSome result → x ≤ FS4.in_eps }
     {
         match x {
             0 => Some(&self.in0),
@@ -82,7 +84,7 @@ impl Controller {
     pub fn out_end(&self, x: u8) -> Option<&OutEndpoint>
         ensures some { IfSome result (λ end. end.now ≡ out_end self.now x) }
         ensures none { IfNone result ((out_end self.now x ≡ no_out_end) × (x ≢ 0)) }
-        ensures number { IsSome result → x ≤ out_count }
+        ensures number { IsSome result → x ≤ FS4.out_eps }
     {
         match x {
             0 => Some(&self.out0),

@@ -38,7 +38,7 @@ impl DevCore {
     /// The controller at its start, of this profile, which has to be `FS4`. 400 accesses may be made, and none was.
     pub fn new(profile: Profile) -> DevCore
         requires { profile ≡ FS4 }
-        ensures { result ≡ record { table = first; spare = most_accesses; log = []; due = []; made = 0; given = [] } }
+        ensures { result ≡ record { table = first profile; spare = most_accesses; log = []; due = []; made = 0; given = [] } }
     {
         DevCore {
             controller: Controller::new(),

@@ -1,5 +1,6 @@
 // Registers that keep what was written, and what the bus has done to the device as a whole.
 ghost use Rattle.std.specs.Prelude.{◌≡◌, ◌≤◌, false, None, replicate};
+ghost use Rattle.dwc2_regs.specs.declared.access.TheConstants.{FS4};
 ghost use Rattle.device_table.specs.State.{no_channel, first};
 ghost use Rattle.dwc2_state.specs.Ends.{channel_written};
 ghost use Rattle.device_table.specs.Write.{gintsts_written, hprt_written, hcchar_written};
@@ -36,7 +37,7 @@ impl Model for CoreState {
 
 impl CoreState {
     pub fn new() -> CoreState
-        ensures { result ≡ first.core }
+        ensures { result ≡ (first FS4).core }
     {
         CoreState {
             awake: false,
@@ -76,18 +77,19 @@ pub struct KeptRegisters {
 
 impl Model for KeptRegisters {
     ghost use Rattle.std.specs.Prelude.{◌≡◌, length};
-    ghost use Rattle.device_table.specs.State.{Kept, in_count};
+    ghost use Rattle.device_table.specs.State.{Kept};
+    ghost use Rattle.dwc2_regs.specs.declared.access.TheConstants.{FS4};
 
     ghost Value = { Kept };
 
     ghost view = { λ k. record { grstctl = k.grstctl; gintmsk = k.gintmsk; grxfsiz = k.grxfsiz; dieptxf0 = k.dieptxf0; dieptxfs = k.dieptxfs; dcfg = k.dcfg; dctl = k.dctl; diepmsk = k.diepmsk; doepmsk = k.doepmsk; daintmsk = k.daintmsk; diepempmsk = k.diepempmsk } };
 
-    ghost invariant = { λ k. length k.dieptxfs ≡ in_count };
+    ghost invariant = { λ k. length k.dieptxfs ≡ FS4.in_eps };
 }
 
 impl KeptRegisters {
     pub fn new() -> KeptRegisters
-        ensures { result ≡ first.kept }
+        ensures { result ≡ (first FS4).kept }
     {
         KeptRegisters {
             grstctl: 0,
@@ -167,18 +169,19 @@ pub struct HostRegisters {
 
 impl Model for HostRegisters {
     ghost use Rattle.std.specs.Prelude.{◌≡◌, length};
-    ghost use Rattle.device_table.specs.State.{Host, channel_count};
+    ghost use Rattle.device_table.specs.State.{Host};
+    ghost use Rattle.dwc2_regs.specs.declared.access.TheConstants.{FS4};
 
     ghost Value = { Host };
 
     ghost view = { λ h. record { hptxfsiz = h.hptxfsiz; hcfg = h.hcfg; haintmsk = h.haintmsk; hprt = h.hprt; channels = h.channels } };
 
-    ghost invariant = { λ h. length h.channels ≡ channel_count };
+    ghost invariant = { λ h. length h.channels ≡ FS4.channels };
 }
 
 impl HostRegisters {
     pub fn new() -> HostRegisters
-        ensures { result ≡ first.host }
+        ensures { result ≡ (first FS4).host }
     {
         HostRegisters {
             hptxfsiz: 0,

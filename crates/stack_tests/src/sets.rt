@@ -2,6 +2,7 @@
 ghost use Rattle.std.specs.Prelude.{◌≤◌, IfOk, length};
 ghost use Rattle.usb_descriptor.specs.Strings.{Ascend};
 ghost use Rattle.usb_descriptor.specs.Set.{IsAccepted};
+ghost use Rattle.dwc2_regs.specs.declared.access.TheConstants.{FS4};
 ghost use Rattle.usbd_core.specs.Device.{tops};
 
 use usb_descriptor::{DescSet, EpLimits, SetFault, SetParts, StringPart, read_set};
@@ -14,7 +15,7 @@ pub const DEVICE: &[u8] =
 pub fn set_of<'a>(config: &'a [u8], strings: &'a [StringPart]) -> Result<DescSet, SetFault>
     requires few { length strings.now ≤ 8 }
     requires ascending { Ascend 1 strings.now }
-    ensures { IfOk result (λ set. IsAccepted set tops) }
+    ensures { IfOk result (λ set. IsAccepted set (tops FS4)) }
 {
     let parts = SetParts {
         device: DEVICE,

@@ -1,5 +1,6 @@
 //! Requests on endpoint 0 over the registers of the controller.
 ghost use Rattle.std.specs.Prelude.{◌≡◌, ℕ, ◌<◌, ◌≤◌, [], slice_index};
+ghost use Rattle.dwc2_regs.specs.declared.access.TheConstants.{FS4};
 ghost use Rattle.usbd_core.specs.Device.{Agrees};
 
 use crate::sets::{DEVICE, set_of};
@@ -25,7 +26,7 @@ const CONFIG: &[u8] =
 
 /// A device with this configuration and string 1, the letter A.
 fn device(rt: &impl Abort, alloc: Global, config: &[u8]) -> Device
-    ensures agrees { Agrees result }
+    ensures agrees { Agrees FS4 result }
     ensures still { result.port.bank.due ≡ [] }
 {
     let mut body = ArrayVec::new();
@@ -52,7 +53,7 @@ fn config_of(bytes: u8) -> ArrayVec<u8, 512> {
 
 /// A device that was reset.
 fn awake(rt: &impl Abort, alloc: Global, config: &[u8]) -> Device
-    ensures agrees { Agrees result }
+    ensures agrees { Agrees FS4 result }
     ensures still { result.port.bank.due ≡ [] }
 {
     let mut device = device(rt, alloc, config);
@@ -62,9 +63,9 @@ fn awake(rt: &impl Abort, alloc: Global, config: &[u8]) -> Device
 }
 
 fn bus(device: &mut Device, event: &BusEvent) -> BusAnswer
-    requires agrees { Agrees device.old }
+    requires agrees { Agrees FS4 device.old }
     requires still { device.old.port.bank.due ≡ [] }
-    ensures agrees { Agrees device.new }
+    ensures agrees { Agrees FS4 device.new }
     ensures still { device.new.port.bank.due ≡ [] }
 {
     event_fits(event);
@@ -74,9 +75,9 @@ fn bus(device: &mut Device, event: &BusEvent) -> BusAnswer
 
 /// A handler run, with 400 accesses allowed.
 fn irq(device: &mut Device)
-    requires agrees { Agrees device.old }
+    requires agrees { Agrees FS4 device.old }
     requires still { device.old.port.bank.due ≡ [] }
-    ensures agrees { Agrees device.new }
+    ensures agrees { Agrees FS4 device.new }
     ensures still { device.new.port.bank.due ≡ [] }
 {
     device.regs().begin();
@@ -85,9 +86,9 @@ fn irq(device: &mut Device)
 
 /// A task run, with as many.
 fn task(device: &mut Device)
-    requires agrees { Agrees device.old }
+    requires agrees { Agrees FS4 device.old }
     requires still { device.old.port.bank.due ≡ [] }
-    ensures agrees { Agrees device.new }
+    ensures agrees { Agrees FS4 device.new }
     ensures still { device.new.port.bank.due ≡ [] }
 {
     device.regs().begin();
@@ -95,24 +96,24 @@ fn task(device: &mut Device)
 }
 
 fn state(device: &Device) -> CoreState
-    requires { Agrees device.now }
+    requires { Agrees FS4 device.now }
 {
     device.state()
 }
 
 fn token(device: &mut Device, addr: u8, ep: u8, ok: bool) -> BusAnswer
-    requires agrees { Agrees device.old }
+    requires agrees { Agrees FS4 device.old }
     requires still { device.old.port.bank.due ≡ [] }
-    ensures agrees { Agrees device.new }
+    ensures agrees { Agrees FS4 device.new }
     ensures still { device.new.port.bank.due ≡ [] }
 {
     bus(device, &BusEvent::In { addr, ep, ok })
 }
 
 fn send(device: &mut Device, ep: u8, toggle: Toggle, bytes: &[u8]) -> BusAnswer
-    requires agrees { Agrees device.old }
+    requires agrees { Agrees FS4 device.old }
     requires still { device.old.port.bank.due ≡ [] }
-    ensures agrees { Agrees device.new }
+    ensures agrees { Agrees FS4 device.new }
     ensures still { device.new.port.bank.due ≡ [] }
 {
     let packet = Packet::new(bytes).unwrap_or(Packet::empty());
@@ -130,9 +131,9 @@ fn send(device: &mut Device, ep: u8, toggle: Toggle, bytes: &[u8]) -> BusAnswer
 
 /// A request up to the answer to the first IN token, at address 0.
 fn ask(device: &mut Device, bytes: [u8; 8]) -> BusAnswer
-    requires agrees { Agrees device.old }
+    requires agrees { Agrees FS4 device.old }
     requires still { device.old.port.bank.due ≡ [] }
-    ensures agrees { Agrees device.new }
+    ensures agrees { Agrees FS4 device.new }
     ensures still { device.new.port.bank.due ≡ [] }
 {
     let _ = bus(
@@ -149,9 +150,9 @@ fn ask(device: &mut Device, bytes: [u8; 8]) -> BusAnswer
 
 /// The answer to the next IN token, once a task and a handler run brought the packet.
 fn next(device: &mut Device) -> BusAnswer
-    requires agrees { Agrees device.old }
+    requires agrees { Agrees FS4 device.old }
     requires still { device.old.port.bank.due ≡ [] }
-    ensures agrees { Agrees device.new }
+    ensures agrees { Agrees FS4 device.new }
     ensures still { device.new.port.bank.due ≡ [] }
 {
     task(device);
@@ -177,9 +178,9 @@ fn is_part(answer: &BusAnswer, toggle: Toggle, bytes: &[u8], from: usize) -> boo
 
 /// SET_CONFIGURATION with this value.
 fn configure(device: &mut Device, value: u8) -> bool
-    requires agrees { Agrees device.old }
+    requires agrees { Agrees FS4 device.old }
     requires still { device.old.port.bank.due ≡ [] }
-    ensures agrees { Agrees device.new }
+    ensures agrees { Agrees FS4 device.new }
     ensures still { device.new.port.bank.due ≡ [] }
 {
     let answer = ask(device, [0, 9, value, 0, 0, 0, 0, 0]);

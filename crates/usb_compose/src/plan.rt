@@ -31,7 +31,7 @@ pub struct FifoPlan {
 /// comes on the OUT endpoints of a set that the controller serves always finds room.
 pub fn fifo_plan(set: &DescSet, profile: Profile) -> FifoPlan
     requires { profile ≡ FS4 }
-    ensures depths { result ≡ record { rx = rx_depth profile.out_eps; tx0 = tx0_depth; tx = tx_depth; ins = profile.in_eps } }
+    ensures depths { result ≡ record { rx = rx_depth profile; tx0 = tx0_depth; tx = tx_depth; ins = profile.in_eps } }
     ensures memory { result.rx + result.tx0 + result.ins * result.tx ≤ profile.ram_words }
     ensures room { IsAccepted set.now (record { in_top = profile.in_eps; out_top = profile.out_eps; report_known = true })
         → most_words (endpoints_of set.now.config) ≤ result.rx }

@@ -11,6 +11,7 @@ use Rattle.device_machine.specs.declared.control.Side.TheVariants.{Off, Wait, Lo
 use Rattle.device_machine.specs.Bus.{Bus, finished_stage, loaded, last_of}
 use Rattle.device_machine.specs.Core as core
 use Rattle.device_machine.specs.Core.{Core, Transfer, Idle, Sending, Ending, Addressing, after_irq}
+use Rattle.dwc2_regs.specs.declared.access.TheConstants.{FS4}
 use Rattle.device_table.specs.State.{Table}
 use Rattle.device_relation.specs.Software.{Software}
 use Rattle.device_relation.specs.Relation.{Stands, IsSound, is_idle, abstract}
@@ -85,7 +86,7 @@ quiet_port p = record p { reset = false; finished = None; request = None }
 record Settles (set : Set) (k : Kept) (c : Core) (p : Port) : Type 0 where
   alone : IsAlone p.reset p.finished p.request
   core : with_kept p.bus k ≡ c
-  fits : Fits set (quiet_port p) k.state k.transfer
+  fits : Fits FS4 set (quiet_port p) k.state k.transfer
   rests : Rests (quiet_port p) k.finished k.request
 
 -- a device without notes
@@ -130,7 +131,7 @@ status_off Ending = tt
 
 -- no stage finished
 request_settles : (set : Set) (k : Kept) (bus : Bus) (heard : Bool) (next : Option ℕ) (last : Option (List ℕ))
-    → Fits set (plain bus heard next) k.state k.transfer → Rests (plain bus heard next) k.finished k.request
+    → Fits FS4 set (plain bus heard next) k.state k.transfer → Rests (plain bus heard next) k.finished k.request
     → Settles set (after k (port.with_request (plain bus heard next) last)) (core.with_request (with_kept bus k) last) (port.with_request (plain bus heard next) last)
 request_settles set k bus heard next None f r = record {
   alone = tt;
@@ -164,7 +165,7 @@ abbrev at : Bus → Side → Bus
 at bus side = record bus { side = side }
 
 stage_settles : (set : Set) (k : Kept) (bus : Bus) (stage : Stage) (last : Option (List ℕ)) → with_finished k (Some stage) ≡ record k { finished = Some stage }
-    → Fits set (plain (at bus (Finished stage)) true None) k.state k.transfer
+    → Fits FS4 set (plain (at bus (Finished stage)) true None) k.state k.transfer
     → Settles set (after k (port.with_request (port.with_stage (plain (at bus (Finished stage)) true None) stage) last))
     (core.with_request (core.with_stage (with_kept (at bus (Finished stage)) k) (Some stage)) last)
     (port.with_request (port.with_stage (plain (at bus (Finished stage)) true None) stage) last)
@@ -198,7 +199,7 @@ port_finished bus next stage = port.with_stages (plain (at bus (Finished stage))
 abbrev core_finished : Bus → Kept → Stage → Core
 core_finished bus k stage = core.after_stages (with_kept (at bus (Finished stage)) k) (core.new_address k.transfer (Some stage))
 
-transfer_settles : (set : Set) (k : Kept) (bus : Bus) (stage : Stage) (t : Transfer) → Fits set (plain (at bus (Finished stage)) true (address_of t)) k.state t
+transfer_settles : (set : Set) (k : Kept) (bus : Bus) (stage : Stage) (t : Transfer) → Fits FS4 set (plain (at bus (Finished stage)) true (address_of t)) k.state t
     → Settles set (after (on k t) (port_finished bus (address_of t) stage)) (core_finished bus (on k t) stage) (port_finished bus (address_of t) stage)
 transfer_settles set k bus Sent (Addressing n) f = record {
   alone = tt;
@@ -228,7 +229,7 @@ no_address (Sending packets) = refl
 no_address Ending = refl
 
 idle_settles : (set : Set) (k : Kept) (bus : Bus) (heard : Bool) (next : Option ℕ) (side : Side) → finished_stage side ≡ None
-    → Fits set (plain (at bus side) heard next) k.state k.transfer → Rests (plain (at bus side) heard next) k.finished k.request
+    → Fits FS4 set (plain (at bus side) heard next) k.state k.transfer → Rests (plain (at bus side) heard next) k.finished k.request
     → Settles set (after k (port_at bus heard next side)) (core_at bus k side) (port_at bus heard next side)
 idle_settles set k bus heard next side e f r =
     let none : core.new_address k.transfer (finished_stage side) ≡ None = ap (core.new_address k.transfer) e ∙ no_address k.transfer in
@@ -244,7 +245,7 @@ was_first true e = refl
 was_first false e = e
 
 side_settles : (set : Set) (k : Kept) (bus : Bus) (heard : Bool) (next : Option ℕ) (side : Side) → (heard || is_idle side) ≡ true
-    → Fits set (plain (at bus side) heard next) k.state k.transfer → Rests (plain (at bus side) heard next) k.finished k.request
+    → Fits FS4 set (plain (at bus side) heard next) k.state k.transfer → Rests (plain (at bus side) heard next) k.finished k.request
     → Settles set (after k (port_at bus heard next side)) (core_at bus k side) (port_at bus heard next side)
 side_settles set k bus heard next Off h f r = idle_settles set k bus heard next Off refl f r
 side_settles set k bus heard next (Wait packet last) h f r = idle_settles set k bus heard next (Wait packet last) refl f r
@@ -256,8 +257,8 @@ side_settles set k bus heard next (Finished stage) h f r =
     let b : Bus = at bus (Finished stage) in
     let hears : heard ≡ true = was_first heard h in
     let brings : next ≡ address_of k.transfer = f.keeps in
-    let heard_fits = subst (λ (x : Bool). Fits set (plain b x next) k.state k.transfer) hears f in
-    let fits = subst (λ (x : Option ℕ). Fits set (plain b true x) k.state k.transfer) brings heard_fits in
+    let heard_fits = subst (λ (x : Bool). Fits FS4 set (plain b x next) k.state k.transfer) hears f in
+    let fits = subst (λ (x : Option ℕ). Fits FS4 set (plain b true x) k.state k.transfer) brings heard_fits in
     subst (λ (x : Bool). Settles set (after k (port_at bus x next (Finished stage))) (core_at bus k (Finished stage)) (port_at bus x next (Finished stage))) (sym hears)
     (subst (λ (x : Option ℕ). Settles set (after k (port_at bus true x (Finished stage))) (core_at bus k (Finished stage)) (port_at bus true x (Finished stage))) (sym brings)
     (transfer_settles set k bus stage k.transfer fits))
@@ -270,7 +271,7 @@ abbrev core_by : Bool → Core → Core
 core_by reset c = if reset then core.emptied true else core.after_stages c (core.new_address c.transfer (finished_stage c.bus.side))
 
 reset_settles : (set : Set) (k : Kept) (bus : Bus) (heard : Bool) (next : Option ℕ) (reset : Bool) → (heard || is_idle bus.side) ≡ true
-    → Fits set (plain bus heard next) k.state k.transfer → Rests (plain bus heard next) k.finished k.request
+    → Fits FS4 set (plain bus heard next) k.state k.transfer → Rests (plain bus heard next) k.finished k.request
     → Settles set (after k (port_by reset (plain bus heard next))) (core_by reset (with_kept bus k)) (port_by reset (plain bus heard next))
 reset_settles set k bus heard next true h f r = record {
   alone = (refl, refl);
@@ -286,17 +287,17 @@ is_plain p q =
     ∙ ap (λ (x : Option Stage). record p { reset = false; finished = x }) q.finished
     ∙ ap (λ (x : Option (List ℕ)). record p { reset = false; finished = None; request = x }) q.request
 
-run_settles : (set : Set) (k : Kept) (p : Port) → (p.heard || is_idle p.bus.side) ≡ true → Fits set p k.state k.transfer → Rests p k.finished k.request
+run_settles : (set : Set) (k : Kept) (p : Port) → (p.heard || is_idle p.bus.side) ≡ true → Fits FS4 set p k.state k.transfer → Rests p k.finished k.request
     → Settles set (after k (after_handler p)) (after_irq (with_kept p.bus k)) (after_handler p)
 run_settles set k p h f r =
     let e : p ≡ plain p.bus p.heard p.next_address = is_plain p f.quiet in
     subst (λ (x : Port). Settles set (after k (after_handler x)) (after_irq (with_kept p.bus k)) (after_handler x)) (sym e)
-    (reset_settles set k p.bus p.heard p.next_address p.bus.reset h (subst (λ (x : Port). Fits set x k.state k.transfer) e f) r)
+    (reset_settles set k p.bus p.heard p.next_address p.bus.reset h (subst (λ (x : Port). Fits FS4 set x k.state k.transfer) e f) r)
 
 -- Over the driver.
 
 -- its notes leave controller and software as sound
-quiet_stands : (t : Table) (s : Software) (m : Bus) → Stands t s m → Stands t (record s { reset = false; finished = None; request = None }) m
+quiet_stands : (t : Table) (s : Software) (m : Bus) → Stands FS4 t s m → Stands FS4 t (record s { reset = false; finished = None; request = None }) m
 quiet_stands t s m st = record {
   ins = st.ins;
   outs = st.outs;
@@ -311,16 +312,16 @@ quiet_stands t s m st = record {
 -- the device once the notes of its driver are taken
 pub record Heard (old new : Device) : Type 0 where
   pub core : core_of new ≡ after_irq (core_of old)
-  pub agrees : Agrees new
+  pub agrees : Agrees FS4 new
 
-heard_is : (old : Device) (d : Driver) (new : Device) → IsSound (joint d) → Settles old.set (after (kept old) (port_of (joint d))) (after_irq (core_of old)) (port_of (joint d))
+heard_is : (old : Device) (d : Driver) (new : Device) → IsSound FS4 (joint d) → Settles old.set (after (kept old) (port_of (joint d))) (after_irq (core_of old)) (port_of (joint d))
     → new ≡ device old.set (quiet d) (after (kept old) (port_of (joint d))) → Heard old new
 heard_is old d new st s e =
     let settled : Heard old (device old.set (quiet d) (after (kept old) (port_of (joint d)))) =
     record { core = s.core; agrees = record { sound = quiet_stands d.bank.table d.software (abstract (joint d)) st; fits = s.fits; rests = s.rests } } in
     subst (λ (x : Device). Heard old x) (sym e) settled
 
-twice : (old : Device) (d : Driver) → Agrees old → IsSound (joint d) → port_of (joint d) ≡ after_handler (port_in old) → Heard old (after_note (after_note (with_driver old d)))
+twice : (old : Device) (d : Driver) → Agrees FS4 old → IsSound FS4 (joint d) → port_of (joint d) ≡ after_handler (port_in old) → Heard old (after_note (after_note (with_driver old d)))
 twice old d a st e =
     let s = run_settles old.set (kept old) (port_in old) a.sound.side.first a.fits a.rests in
     let settled : Settles old.set (after (kept old) (port_of (joint d))) (after_irq (core_of old)) (port_of (joint d)) =
@@ -329,7 +330,7 @@ twice old d a st e =
     (heard_all (with_driver old d) d.software.reset d.software.finished d.software.request settled.alone)
 
 -- a handler run of the driver, and its notes taken
-pub run_heard : (old : Device) (d : Driver) (one two : Device) → Agrees old → IsSound (joint d) → port_of (joint d) ≡ after_handler (port_in old)
+pub run_heard : (old : Device) (d : Driver) (one two : Device) → Agrees FS4 old → IsSound FS4 (joint d) → port_of (joint d) ≡ after_handler (port_in old)
     → one ≡ after_note (with_driver old d) → two ≡ after_note one → Heard old two
 run_heard old d one two a st e first second =
     subst (λ (x : Device). Heard old x) (sym (second ∙ ap after_note first)) (twice old d a st e)

@@ -12,6 +12,7 @@ use Rattle.usb_control.specs.Table.{choice}
 use Rattle.device_machine.specs.declared.control.Stage.{Stage}
 use Rattle.device_machine.specs.Packets.{data_packets}
 use Rattle.device_machine.specs.Core.{Core, state_of, sending, with_data, staged, changed, begun, work_request, with_request_worked}
+use Rattle.dwc2_regs.specs.declared.access.TheConstants.{FS4}
 use Rattle.device_relation.specs.Port.{Port}
 use Rattle.device_relation.specs.Relation.{IsSound}
 use Rattle.dwc2_device.specs.Driver.{joint}
@@ -70,6 +71,6 @@ quiet_rests p set old new none e =
     subst (λ (f : Option Stage). Rests p f new.request) (sym finished) (subst (λ (r : Option (List ℕ)). Rests p None r) (sym request) (none_rests p))
 
 -- so controller and software agree once the SETUP is worked
-pub worked_agrees : (old new : Device) → old.finished ≡ None → core_of new ≡ with_request_worked old.set (core_of old) → IsSound (joint new.port)
-    → Fits new.set (port_in new) new.state new.transfer → Agrees new
+pub worked_agrees : (old new : Device) → old.finished ≡ None → core_of new ≡ with_request_worked old.set (core_of old) → IsSound FS4 (joint new.port)
+    → Fits FS4 new.set (port_in new) new.state new.transfer → Agrees FS4 new
 worked_agrees old new none core sound fits = record { sound = sound; fits = fits; rests = quiet_rests (port_in new) old.set (core_of old) (core_of new) none core }

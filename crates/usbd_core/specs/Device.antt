@@ -1,7 +1,7 @@
 -- A device: its descriptors, its driver with the controller, and what its software keeps beside them; the core that they are
 -- together, and what holds of them.
 use Rattle.std.specs.Prelude.{◌≡◌, ℕ, Bool, true, false, not, List, Option, Some, None}
-use Rattle.dwc2_regs.specs.declared.access.TheConstants.{FS4}
+use Rattle.dwc2_regs.specs.declared.access.Profile.{Profile}
 use Rattle.usb_descriptor.specs.declared.limits.EpLimits.{EpLimits}
 use Rattle.usb_descriptor.specs.Set.{Set, endpoints_of}
 use Rattle.usb_descriptor.specs.Served.{AreServed}
@@ -106,16 +106,16 @@ GivesStatus Idle side = Unit {0}
 GivesStatus (Sending packets) side = Unit {0}
 GivesStatus Ending side = Unit {0}
 
--- the controller's numbers are those of FS4
-abbrev pub tops : EpLimits
-tops = record { in_top = FS4.in_eps; out_top = FS4.out_eps; report_known = true }
+-- the controller's numbers are those of its profile
+abbrev pub tops : Profile → EpLimits
+tops profile = record { in_top = profile.in_eps; out_top = profile.out_eps; report_known = true }
 
 -- what the software keeps is what the driver's device has
-pub record Fits (set : Set) (p : Port) (state : CoreState) (transfer : Transfer) : Type 0 where
+pub record Fits (profile : Profile) (set : Set) (p : Port) (state : CoreState) (transfer : Transfer) : Type 0 where
   pub quiet : IsQuiet p
   pub address : state.addr ≡ p.bus.address
   pub endpoints : p.bus.endpoints ≡ opened set state.configured
-  pub served : AreServed tops (endpoints_of set.config)
+  pub served : AreServed (tops profile) (endpoints_of set.config)
   pub keeps : KeepsAddress p.bus.side p.next_address (address_of transfer)
   pub status : GivesStatus transfer p.bus.side
 
@@ -124,7 +124,7 @@ abbrev pub Rests : Port → Option Stage → Option (List ℕ) → Type 0
 Rests p finished request = has_note finished request ≡ true → (p.bus.side ≡ Off) × (p.heard ≡ true)
 
 -- controller and driver agree, and the software with them
-pub record Agrees (d : Device) : Type 0 where
-  pub sound : IsSound (joint d.port)
-  pub fits : Fits d.set (port_in d) d.state d.transfer
+pub record Agrees (profile : Profile) (d : Device) : Type 0 where
+  pub sound : IsSound profile (joint d.port)
+  pub fits : Fits profile d.set (port_in d) d.state d.transfer
   pub rests : Rests (port_in d) d.finished d.request

@@ -2,6 +2,7 @@
 ghost use Rattle.std.specs.Prelude.{◌≡◌, ℕ, List, take};
 ghost use Rattle.std.specs.List.{concat};
 ghost use Rattle.device_machine.specs.Packets.{data_packets};
+ghost use Rattle.dwc2_regs.specs.declared.access.TheConstants.{FS4};
 ghost use Rattle.usbd_core.specs.Laws.{BusKeeps};
 
 /// The packets of a data stage for the host, joined in order, are the data cut to what the host allows.
@@ -12,5 +13,5 @@ pub fn data_is_whole()
 /// Where controller, driver and software agree, the controller's answer to each bus event is that of the core that they are;
 /// what the event leaves is that core's next state, and they agree again.
 pub fn bus_keeps()
-    ensures { BusKeeps }
+    ensures { BusKeeps FS4 }
 {}

@@ -60,13 +60,13 @@ impl<R: Regs + Drop> DevStack<R> {
         profile: Profile,
     ) -> Result<DevStack<R>, AllocError>
         requires profile { profile ≡ FS4 }
-        requires accepted { IsAccepted set tops }
-        requires first { (R.bank regs).table ≡ first }
+        requires accepted { IsAccepted set (tops FS4) }
+        requires first { (R.bank regs).table ≡ first FS4 }
         requires still { (R.bank regs).due ≡ [] }
         ensures set { IfOk result (λ d. d.set ≡ set) }
         ensures core { IfOk result (λ d. core_of d ≡ start) }
-        ensures agrees { IfOk result (λ d. Agrees d) }
-        ensures table { IfOk result (λ d. d.port.bank.table ≡ opened) }
+        ensures agrees { IfOk result (λ d. Agrees FS4 d) }
+        ensures table { IfOk result (λ d. d.port.bank.table ≡ opened FS4) }
         ensures still { IfOk result (λ d. d.port.bank.due ≡ []) }
     {
         let _ = alloc;
@@ -103,11 +103,11 @@ impl<R: Regs + Drop> DevStack<R> {
     /// One handler run, of at most 200 accesses: it serves a reset; or notes a stage that finished, sets the address where that
     /// was the status stage of SET_ADDRESS, and else notes the last SETUP or loads the packet that waits.
     pub fn irq(&mut self)
-        requires agrees { Agrees self.old }
+        requires agrees { Agrees FS4 self.old }
         requires spare { 400 ≤ self.old.port.bank.spare }
         requires still { self.old.port.bank.due ≡ [] }
         ensures core { core_of self.new ≡ after_irq (core_of self.old) }
-        ensures agrees { Agrees self.new }
+        ensures agrees { Agrees FS4 self.new }
         ensures set { self.new.set ≡ self.old.set }
         ensures spare { self.old.port.bank.spare ≤ self.new.port.bank.spare + 200 }
         ensures still { self.new.port.bank.due ≡ [] }
@@ -153,7 +153,7 @@ impl<R: Regs + Drop> DevStack<R> {
 
     /// The address, whether a session stands, and the halted endpoints.
     pub fn state(&self) -> CoreState
-        requires agrees { Agrees self.now }
+        requires agrees { Agrees FS4 self.now }
         ensures { result ≡ state_of (core_of self.now) }
     {
         self.state.copy()

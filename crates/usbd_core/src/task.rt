@@ -5,6 +5,7 @@ ghost use Rattle.usb_descriptor.specs.Served.{AreServed};
 ghost use Rattle.device_machine.specs.declared.control.Stage.TheVariants.{Sent};
 ghost use Rattle.device_machine.specs.declared.control.Side.TheVariants.{Wait};
 ghost use Rattle.device_machine.specs.Core.{Ending, Addressing, state_of, after_task, work_stage, with_request_worked, advanced, begun, staged, ending, with_side, with_data, refused, changed, with_halts, configured};
+ghost use Rattle.dwc2_regs.specs.declared.access.TheConstants.{FS4};
 ghost use Rattle.device_relation.specs.Relation.{IsSound, IsAddress};
 ghost use Rattle.device_relation.specs.Port.{port_of};
 ghost use Rattle.dwc2_device.specs.Driver.{joint, GoesOn};
@@ -27,11 +28,11 @@ use usb_pipe::Decision;
 impl<R: Regs + Drop> DevStack<R> {
     /// One task run, of at most 40 accesses: it works the stage that finished, and then the SETUP.
     pub fn task(&mut self)
-        requires agrees { Agrees self.old }
+        requires agrees { Agrees FS4 self.old }
         requires spare { 400 ≤ self.old.port.bank.spare }
         requires still { self.old.port.bank.due ≡ [] }
         ensures core { core_of self.new ≡ after_task self.old.set (core_of self.old) }
-        ensures agrees { Agrees self.new }
+        ensures agrees { Agrees FS4 self.new }
         ensures set { self.new.set ≡ self.old.set }
         ensures spare { self.old.port.bank.spare ≤ self.new.port.bank.spare + 40 }
         ensures still { self.new.port.bank.due ≡ [] }
@@ -43,16 +44,16 @@ impl<R: Regs + Drop> DevStack<R> {
 
     /// Goes on after the stage that finished, where one did.
     fn work_stage(&mut self)
-        requires sound { IsSound (joint self.old.port) }
-        requires fits { Fits self.old.set (port_in self.old) self.old.state self.old.transfer }
+        requires sound { IsSound FS4 (joint self.old.port) }
+        requires fits { Fits FS4 self.old.set (port_in self.old) self.old.state self.old.transfer }
         requires rests { Rests (port_in self.old) self.old.finished self.old.request }
         requires spare { 2 ≤ self.old.port.bank.spare }
         requires still { self.old.port.bank.due ≡ [] }
         ensures core { core_of self.new ≡ work_stage (core_of self.old) self.old.finished }
         ensures set { self.new.set ≡ self.old.set }
         ensures finished { self.new.finished ≡ None }
-        ensures sound { IsSound (joint self.new.port) }
-        ensures fits { Fits self.new.set (port_in self.new) self.new.state self.new.transfer }
+        ensures sound { IsSound FS4 (joint self.new.port) }
+        ensures fits { Fits FS4 self.new.set (port_in self.new) self.new.state self.new.transfer }
         ensures free { IsFreeFor self.new.request (port_in self.new) }
         ensures spare { self.old.port.bank.spare ≤ self.new.port.bank.spare + 2 }
         ensures still { self.new.port.bank.due ≡ [] }
@@ -67,15 +68,15 @@ impl<R: Regs + Drop> DevStack<R> {
 
     /// Begins the transfer of the SETUP that was noted, where one was.
     fn work_request(&mut self)
-        requires sound { IsSound (joint self.old.port) }
-        requires fits { Fits self.old.set (port_in self.old) self.old.state self.old.transfer }
+        requires sound { IsSound FS4 (joint self.old.port) }
+        requires fits { Fits FS4 self.old.set (port_in self.old) self.old.state self.old.transfer }
         requires finished { self.old.finished ≡ None }
         requires free { IsFreeFor self.old.request (port_in self.old) }
         requires spare { 38 ≤ self.old.port.bank.spare }
         requires still { self.old.port.bank.due ≡ [] }
         ensures core { core_of self.new ≡ with_request_worked self.old.set (core_of self.old) }
         ensures set { self.new.set ≡ self.old.set }
-        ensures agrees { Agrees self.new }
+        ensures agrees { Agrees FS4 self.new }
         ensures spare { self.old.port.bank.spare ≤ self.new.port.bank.spare + 38 }
         ensures still { self.new.port.bank.due ≡ [] }
         ensures goes { GoesOn self.old.port.bank self.new.port.bank }
@@ -89,16 +90,16 @@ impl<R: Regs + Drop> DevStack<R> {
     /// Hands over the next packet of a data stage for the host. Where none is left, or no data stage runs, the transfer
     /// is over.
     fn send(&mut self)
-        requires sound { IsSound (joint self.old.port) }
-        requires fits { Fits self.old.set (port_in self.old) self.old.state self.old.transfer }
+        requires sound { IsSound FS4 (joint self.old.port) }
+        requires fits { Fits FS4 self.old.set (port_in self.old) self.old.state self.old.transfer }
         requires free { IsFree (port_in self.old) }
         requires spare { 2 ≤ self.old.port.bank.spare }
         requires still { self.old.port.bank.due ≡ [] }
         ensures core { core_of self.new ≡ advanced (core_of self.old) self.old.transfer Sent }
         ensures set { self.new.set ≡ self.old.set }
         ensures finished { self.new.finished ≡ self.old.finished }
-        ensures sound { IsSound (joint self.new.port) }
-        ensures fits { Fits self.new.set (port_in self.new) self.new.state self.new.transfer }
+        ensures sound { IsSound FS4 (joint self.new.port) }
+        ensures fits { Fits FS4 self.new.set (port_in self.new) self.new.state self.new.transfer }
         ensures free { IsFree (port_in self.new) }
         ensures spare { self.old.port.bank.spare ≤ self.new.port.bank.spare + 2 }
         ensures still { self.new.port.bank.due ≡ [] }
@@ -118,15 +119,15 @@ impl<R: Regs + Drop> DevStack<R> {
 
     /// Begins the transfer of a request.
     fn begin(&mut self, setup: &Setup)
-        requires sound { IsSound (joint self.old.port) }
-        requires fits { Fits self.old.set (port_in self.old) self.old.state self.old.transfer }
+        requires sound { IsSound FS4 (joint self.old.port) }
+        requires fits { Fits FS4 self.old.set (port_in self.old) self.old.state self.old.transfer }
         requires free { IsFree (port_in self.old) }
         requires spare { 38 ≤ self.old.port.bank.spare }
         requires still { self.old.port.bank.due ≡ [] }
         ensures core { core_of self.new ≡ begun self.old.set (core_of self.old) (choice self.old.set (state_of (core_of self.old)) setup.now) setup.now.length }
         ensures set { self.new.set ≡ self.old.set }
-        ensures sound { IsSound (joint self.new.port) }
-        ensures fits { Fits self.new.set (port_in self.new) self.new.state self.new.transfer }
+        ensures sound { IsSound FS4 (joint self.new.port) }
+        ensures fits { Fits FS4 self.new.set (port_in self.new) self.new.state self.new.transfer }
         ensures spare { self.old.port.bank.spare ≤ self.new.port.bank.spare + 38 }
         ensures still { self.new.port.bank.due ≡ [] }
         ensures goes { GoesOn self.old.port.bank self.new.port.bank }
@@ -143,16 +144,16 @@ impl<R: Regs + Drop> DevStack<R> {
     /// The first stage of a request.
     #[inline(always)]
     fn stage(&mut self, decision: Decision, effect: Effect, allowed: u16)
-        requires sound { IsSound (joint self.old.port) }
-        requires fits { Fits self.old.set (port_in self.old) self.old.state self.old.transfer }
+        requires sound { IsSound FS4 (joint self.old.port) }
+        requires fits { Fits FS4 self.old.set (port_in self.old) self.old.state self.old.transfer }
         requires free { IsFree (port_in self.old) }
         requires address { IsAddress (address_of (ending effect)) }
         requires spare { 2 ≤ self.old.port.bank.spare }
         requires still { self.old.port.bank.due ≡ [] }
         ensures core { core_of self.new ≡ staged (core_of self.old) decision effect allowed }
         ensures set { self.new.set ≡ self.old.set }
-        ensures sound { IsSound (joint self.new.port) }
-        ensures fits { Fits self.new.set (port_in self.new) self.new.state self.new.transfer }
+        ensures sound { IsSound FS4 (joint self.new.port) }
+        ensures fits { Fits FS4 self.new.set (port_in self.new) self.new.state self.new.transfer }
         ensures spare { self.old.port.bank.spare ≤ self.new.port.bank.spare + 2 }
         ensures still { self.new.port.bank.due ≡ [] }
         ensures goes { GoesOn self.old.port.bank self.new.port.bank }
@@ -166,16 +167,16 @@ impl<R: Regs + Drop> DevStack<R> {
 
     /// The status stage of a request without data.
     fn acknowledge(&mut self, effect: Effect)
-        requires sound { IsSound (joint self.old.port) }
-        requires fits { Fits self.old.set (port_in self.old) self.old.state self.old.transfer }
+        requires sound { IsSound FS4 (joint self.old.port) }
+        requires fits { Fits FS4 self.old.set (port_in self.old) self.old.state self.old.transfer }
         requires free { IsFree (port_in self.old) }
         requires address { IsAddress (address_of (ending effect)) }
         requires spare { 2 ≤ self.old.port.bank.spare }
         requires still { self.old.port.bank.due ≡ [] }
         ensures core { core_of self.new ≡ with_side (core_of self.old) (Wait [] false) (ending effect) }
         ensures set { self.new.set ≡ self.old.set }
-        ensures sound { IsSound (joint self.new.port) }
-        ensures fits { Fits self.new.set (port_in self.new) self.new.state self.new.transfer }
+        ensures sound { IsSound FS4 (joint self.new.port) }
+        ensures fits { Fits FS4 self.new.set (port_in self.new) self.new.state self.new.transfer }
         ensures spare { self.old.port.bank.spare ≤ self.new.port.bank.spare + 2 }
         ensures still { self.new.port.bank.due ≡ [] }
         ensures goes { GoesOn self.old.port.bank self.new.port.bank }
@@ -188,16 +189,16 @@ impl<R: Regs + Drop> DevStack<R> {
 
     /// The status stage for the host of SET_ADDRESS, with the address that it brings (USB 2.0, 9.4.6).
     fn give_address(&mut self, address: u8)
-        requires sound { IsSound (joint self.old.port) }
-        requires fits { Fits self.old.set (port_in self.old) self.old.state self.old.transfer }
+        requires sound { IsSound FS4 (joint self.old.port) }
+        requires fits { Fits FS4 self.old.set (port_in self.old) self.old.state self.old.transfer }
         requires free { IsFree (port_in self.old) }
         requires address { address < 128 }
         requires spare { 2 ≤ self.old.port.bank.spare }
         requires still { self.old.port.bank.due ≡ [] }
         ensures core { core_of self.new ≡ with_side (core_of self.old) (Wait [] false) (Addressing address) }
         ensures set { self.new.set ≡ self.old.set }
-        ensures sound { IsSound (joint self.new.port) }
-        ensures fits { Fits self.new.set (port_in self.new) self.new.state self.new.transfer }
+        ensures sound { IsSound FS4 (joint self.new.port) }
+        ensures fits { Fits FS4 self.new.set (port_in self.new) self.new.state self.new.transfer }
         ensures spare { self.old.port.bank.spare ≤ self.new.port.bank.spare + 2 }
         ensures still { self.new.port.bank.due ≡ [] }
         ensures goes { GoesOn self.old.port.bank self.new.port.bank }
@@ -209,15 +210,15 @@ impl<R: Regs + Drop> DevStack<R> {
 
     /// The status stage for the host of another request (USB 2.0, 8.5.3).
     fn give_status(&mut self)
-        requires sound { IsSound (joint self.old.port) }
-        requires fits { Fits self.old.set (port_in self.old) self.old.state self.old.transfer }
+        requires sound { IsSound FS4 (joint self.old.port) }
+        requires fits { Fits FS4 self.old.set (port_in self.old) self.old.state self.old.transfer }
         requires free { IsFree (port_in self.old) }
         requires spare { 2 ≤ self.old.port.bank.spare }
         requires still { self.old.port.bank.due ≡ [] }
         ensures core { core_of self.new ≡ with_side (core_of self.old) (Wait [] false) Ending }
         ensures set { self.new.set ≡ self.old.set }
-        ensures sound { IsSound (joint self.new.port) }
-        ensures fits { Fits self.new.set (port_in self.new) self.new.state self.new.transfer }
+        ensures sound { IsSound FS4 (joint self.new.port) }
+        ensures fits { Fits FS4 self.new.set (port_in self.new) self.new.state self.new.transfer }
         ensures spare { self.old.port.bank.spare ≤ self.new.port.bank.spare + 2 }
         ensures still { self.new.port.bank.due ≡ [] }
         ensures goes { GoesOn self.old.port.bank self.new.port.bank }
@@ -229,15 +230,15 @@ impl<R: Regs + Drop> DevStack<R> {
     /// The first stage of a request with data for the host, of which it allows so many bytes.
     #[inline(always)]
     fn give(&mut self, bytes: ArrayVec<u8, 512>, allowed: u16)
-        requires sound { IsSound (joint self.old.port) }
-        requires fits { Fits self.old.set (port_in self.old) self.old.state self.old.transfer }
+        requires sound { IsSound FS4 (joint self.old.port) }
+        requires fits { Fits FS4 self.old.set (port_in self.old) self.old.state self.old.transfer }
         requires free { IsFree (port_in self.old) }
         requires spare { 2 ≤ self.old.port.bank.spare }
         requires still { self.old.port.bank.due ≡ [] }
         ensures core { core_of self.new ≡ with_data (core_of self.old) bytes.items allowed }
         ensures set { self.new.set ≡ self.old.set }
-        ensures sound { IsSound (joint self.new.port) }
-        ensures fits { Fits self.new.set (port_in self.new) self.new.state self.new.transfer }
+        ensures sound { IsSound FS4 (joint self.new.port) }
+        ensures fits { Fits FS4 self.new.set (port_in self.new) self.new.state self.new.transfer }
         ensures spare { self.old.port.bank.spare ≤ self.new.port.bank.spare + 2 }
         ensures still { self.new.port.bank.due ≡ [] }
         ensures goes { GoesOn self.old.port.bank self.new.port.bank }
@@ -252,15 +253,15 @@ impl<R: Regs + Drop> DevStack<R> {
 
     /// Refuses a request.
     fn refuse(&mut self)
-        requires sound { IsSound (joint self.old.port) }
-        requires fits { Fits self.old.set (port_in self.old) self.old.state self.old.transfer }
+        requires sound { IsSound FS4 (joint self.old.port) }
+        requires fits { Fits FS4 self.old.set (port_in self.old) self.old.state self.old.transfer }
         requires free { IsFree (port_in self.old) }
         requires spare { 2 ≤ self.old.port.bank.spare }
         requires still { self.old.port.bank.due ≡ [] }
         ensures core { core_of self.new ≡ refused (core_of self.old) }
         ensures set { self.new.set ≡ self.old.set }
-        ensures sound { IsSound (joint self.new.port) }
-        ensures fits { Fits self.new.set (port_in self.new) self.new.state self.new.transfer }
+        ensures sound { IsSound FS4 (joint self.new.port) }
+        ensures fits { Fits FS4 self.new.set (port_in self.new) self.new.state self.new.transfer }
         ensures spare { self.old.port.bank.spare ≤ self.new.port.bank.spare + 2 }
         ensures still { self.new.port.bank.due ≡ [] }
         ensures goes { GoesOn self.old.port.bank self.new.port.bank }
@@ -271,14 +272,14 @@ impl<R: Regs + Drop> DevStack<R> {
 
     /// What a request changes in this task: all but the address.
     fn change(&mut self, effect: Effect)
-        requires sound { IsSound (joint self.old.port) }
-        requires fits { Fits self.old.set (port_in self.old) self.old.state self.old.transfer }
+        requires sound { IsSound FS4 (joint self.old.port) }
+        requires fits { Fits FS4 self.old.set (port_in self.old) self.old.state self.old.transfer }
         requires spare { 36 ≤ self.old.port.bank.spare }
         requires still { self.old.port.bank.due ≡ [] }
         ensures core { core_of self.new ≡ changed self.old.set (core_of self.old) effect }
         ensures set { self.new.set ≡ self.old.set }
-        ensures sound { IsSound (joint self.new.port) }
-        ensures fits { Fits self.new.set (port_in self.new) self.new.state self.new.transfer }
+        ensures sound { IsSound FS4 (joint self.new.port) }
+        ensures fits { Fits FS4 self.new.set (port_in self.new) self.new.state self.new.transfer }
         ensures spare { self.old.port.bank.spare ≤ self.new.port.bank.spare + 36 }
         ensures still { self.new.port.bank.due ≡ [] }
         ensures goes { GoesOn self.old.port.bank self.new.port.bank }
@@ -294,11 +295,11 @@ impl<R: Regs + Drop> DevStack<R> {
 
     /// The halts after an effect (USB 2.0, 9.4.1, 9.4.9 and 9.4.10).
     fn change_halts(&mut self, effect: Effect)
-        requires fits { Fits self.old.set (port_in self.old) self.old.state self.old.transfer }
+        requires fits { Fits FS4 self.old.set (port_in self.old) self.old.state self.old.transfer }
         ensures core { core_of self.new ≡ with_halts self.old.set (core_of self.old) effect }
         ensures set { self.new.set ≡ self.old.set }
         ensures port { self.new.port ≡ self.old.port }
-        ensures fits { Fits self.new.set (port_in self.new) self.new.state self.new.transfer }
+        ensures fits { Fits FS4 self.new.set (port_in self.new) self.new.state self.new.transfer }
     {
         let halted = halted_after(&self.set, self.state.halted.as_slice(), effect);
         self.state.halted = halted;
@@ -306,14 +307,14 @@ impl<R: Regs + Drop> DevStack<R> {
 
     /// Ends the session, and begins a new one where it is told so (USB 2.0, 9.4.7).
     fn configure(&mut self, begins: bool)
-        requires sound { IsSound (joint self.old.port) }
-        requires fits { Fits self.old.set (port_in self.old) self.old.state self.old.transfer }
+        requires sound { IsSound FS4 (joint self.old.port) }
+        requires fits { Fits FS4 self.old.set (port_in self.old) self.old.state self.old.transfer }
         requires spare { 36 ≤ self.old.port.bank.spare }
         requires still { self.old.port.bank.due ≡ [] }
         ensures core { core_of self.new ≡ configured self.old.set (core_of self.old) begins }
         ensures set { self.new.set ≡ self.old.set }
-        ensures sound { IsSound (joint self.new.port) }
-        ensures fits { Fits self.new.set (port_in self.new) self.new.state self.new.transfer }
+        ensures sound { IsSound FS4 (joint self.new.port) }
+        ensures fits { Fits FS4 self.new.set (port_in self.new) self.new.state self.new.transfer }
         ensures spare { self.old.port.bank.spare ≤ self.new.port.bank.spare + 36 }
         ensures still { self.new.port.bank.due ≡ [] }
         ensures goes { GoesOn self.old.port.bank self.new.port.bank }
@@ -326,12 +327,12 @@ impl<R: Regs + Drop> DevStack<R> {
 
 /// Closes all endpoints but endpoint 0, and opens these where a session begins.
 fn renew<R: Regs + Drop>(port: &mut DevPort<R>, endpoints: &[Endpoint], begins: bool)
-    requires sound { IsSound (joint port.old) }
-    requires served { AreServed tops endpoints.now }
+    requires sound { IsSound FS4 (joint port.old) }
+    requires served { AreServed (tops FS4) endpoints.now }
     requires spare { 36 ≤ port.old.bank.spare }
     requires still { port.old.bank.due ≡ [] }
     ensures port { port_of (joint port.new) ≡ with_endpoints (port_of (joint port.old)) (if begins then endpoints.now else []) }
-    ensures sound { IsSound (joint port.new) }
+    ensures sound { IsSound FS4 (joint port.new) }
     ensures spare { port.old.bank.spare ≤ port.new.bank.spare + 36 }
     ensures still { port.new.bank.due ≡ [] }
     ensures goes { GoesOn port.old.bank port.new.bank }
@@ -344,13 +345,13 @@ fn renew<R: Regs + Drop>(port: &mut DevPort<R>, endpoints: &[Endpoint], begins: 
 
 /// Opens these endpoints, where none is open.
 fn open_all<R: Regs + Drop>(port: &mut DevPort<R>, endpoints: &[Endpoint])
-    requires sound { IsSound (joint port.old) }
+    requires sound { IsSound FS4 (joint port.old) }
     requires shut { port.old.software.open_ones ≡ [] }
-    requires served { AreServed tops endpoints.now }
+    requires served { AreServed (tops FS4) endpoints.now }
     requires spare { 30 ≤ port.old.bank.spare }
     requires still { port.old.bank.due ≡ [] }
     ensures port { port_of (joint port.new) ≡ with_endpoints (port_of (joint port.old)) endpoints.now }
-    ensures sound { IsSound (joint port.new) }
+    ensures sound { IsSound FS4 (joint port.new) }
     ensures spare { port.old.bank.spare ≤ port.new.bank.spare + 30 }
     ensures still { port.new.bank.due ≡ [] }
     ensures goes { GoesOn port.old.bank port.new.bank }

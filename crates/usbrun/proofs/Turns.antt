@@ -11,6 +11,7 @@ use Rattle.usb_text.specs.declared.line.Answer.{Answer}
 use Rattle.usb_text.specs.declared.line.Line.TheVariants.{End}
 use Rattle.usb_text.specs.Line.{newline, line_text, schedule_text_of, IsDeviceLine}
 use Rattle.usb_text.specs.Plain.{is_plain}
+use Rattle.dwc2_regs.specs.declared.access.TheConstants.{FS4}
 use Rattle.device_table.specs.State.{Table, opened}
 use Rattle.usb_descriptor.specs.Set.{Set}
 use Rattle.device_machine.specs.Core.{Core, start}
@@ -125,7 +126,7 @@ fits-more : (lines : List DevLine) (line : DevLine) → AllByRecursion IsDeviceL
 fits-more [] line h k = (k, tt)
 fits-more (l ∷ ls) line h k = (h.0, fits-more ls line h.1 k)
 
-pub progress_start : (left : Option (List ℕ)) (took : Took) (s : Session) → s.run.core ≡ start → s.run.table ≡ opened → AreEmpty s.texts
+pub progress_start : (left : Option (List ℕ)) (took : Took) (s : Session) → s.run.core ≡ start → s.run.table ≡ opened FS4 → AreEmpty s.texts
     → s.lines.count ≤ most_bytes → s.lines.lines ≤ s.lines.count → Progress left left took took s s
 progress_start left took s core table empty short few = record {
   lines = [];
@@ -157,7 +158,7 @@ progress_more left0 left left' took0 took took' s0 s s' p t = record {
   core =
       t.run.core ∙ ap (λ (x : Set). core_after x s.run.core line) p.set ∙ ap (λ (c : Core). core_after set c line) p.core
       ∙ sym (core_state-more set start p.lines line);
-  table = t.run.table ∙ ap (λ (x : Table). after_turn x line s'.run.log) p.table ∙ sym (after_turns-more opened p.turns turn);
+  table = t.run.table ∙ ap (λ (x : Table). after_turn x line s'.run.log) p.table ∙ sym (after_turns-more (opened FS4) p.turns turn);
   short = t.short;
   few = omega (arith, p.few, t.gone.lines, t.more);
 } where

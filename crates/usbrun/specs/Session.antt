@@ -1,6 +1,7 @@
 -- What one line of a schedule, and then many, do to a run.
 use Rattle.std.specs.Prelude.{◌≡◌, ℕ, ◌+◌, ◌≤◌, ◌<◌, List, [], ◌∷◌, ◌++◌, true, length, take, drop, Option, Some, None, ⊤}
 use Rattle.std.specs.List.{AllByRecursion}
+use Rattle.dwc2_regs.specs.declared.access.TheConstants.{FS4}
 use Rattle.device_table.specs.State.{opened}
 use Rattle.line_rules.specs.declared.rules.Mode.TheVariants as mode
 use Rattle.line_rules.specs.declared.rules.Place.TheVariants as place
@@ -110,7 +111,7 @@ pub record Progress (left left' : Option (List ℕ)) (took took' : Took) (old ne
   pub hands : HandsBoth took took' (texts_of old.texts.regs turns) new.texts
   pub set : new.run.set ≡ old.run.set
   pub core : new.run.core ≡ core_state old.run.set lines
-  pub table : new.run.table ≡ after_turns opened turns
+  pub table : new.run.table ≡ after_turns (opened FS4) turns
   pub short : new.lines.count ≤ most_bytes
   pub few : new.lines.lines ≤ new.lines.count
 

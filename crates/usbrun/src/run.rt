@@ -1,4 +1,5 @@
 ghost use Rattle.std.specs.Prelude.{◌≡◌, ◌+◌, ◌≤◌, ◌<◌, Some, false, IfNone, IsTrue, true, ◌⊎◌};
+ghost use Rattle.dwc2_regs.specs.declared.access.TheConstants.{FS4};
 ghost use Rattle.device_table.specs.State.{opened};
 ghost use Rattle.usb_edge.specs.Stream.{Rose, IsAtEnd};
 ghost use Rattle.device_machine.specs.Core.{start};
@@ -31,7 +32,7 @@ pub fn run_schedule<S: Source, K: Sink, T: Sink>(
     requires lines { session.old.lines.lines ≤ session.old.lines.count }
     requires ended { (session.old.lines.ended ≡ true) → IsAtEnd (S.left src.old) }
     requires start { session.old.run.core ≡ start }
-    requires table { session.old.run.table ≡ opened }
+    requires table { session.old.run.table ≡ opened FS4 }
     requires empty { AreEmpty session.old.texts }
     ensures runs { Runs result (S.left src.old) (S.left src.new) (both (K.taken out.old) (T.taken trace.old)) (both (K.taken out.new) (T.taken trace.new)) session.old session.new }
     ensures ended { (session.new.lines.ended ≡ true) → IsAtEnd (S.left src.new) }
