@@ -1,5 +1,5 @@
 -- The driver with its controller, and how the controller moves.
-use Rattle.std.specs.Prelude.{◌≡◌, ◌≤◌, ℕ, List, [], ◌∷◌, ◌++◌, true}
+use Rattle.std.specs.Prelude.{◌≡◌, ◌≤◌, ℕ, ◌+◌, List, [], ◌∷◌, ◌++◌, true}
 use Rattle.dwc2_regs.specs.declared.access.Access.{Access}
 use Rattle.device_table.specs.Bank.{Bank, bank_read, bank_write}
 use Rattle.dwc2_access.specs.Registers.{IsRegister}
@@ -21,6 +21,14 @@ pub data Moves : Bank → Bank → Type 0 where
 -- what moved to the old bank moved to the new one
 abbrev pub GoesOn : Bank → Bank → Type 0
 GoesOn old new = (start : Bank) → Moves start old → Moves start new
+
+-- what a call needs of the controller: so many accesses may be made, and nothing is due on the bus
+abbrev pub Has : ℕ → Bank → Type 0
+Has n bank = (n ≤ bank.spare) × (bank.due ≡ [])
+
+-- what it makes of it: at most so many accesses were made, nothing is due, and the controller moved by accesses alone
+abbrev pub Spends : ℕ → Bank → Bank → Type 0
+Spends n old new = (old.spare ≤ new.spare + n) × (new.due ≡ []) × GoesOn old new
 
 -- The last access was the write of GINTSTS that clears USBRST and ENUMDNE, with which the device wakes: so all that a reset
 -- has to close and to empty was closed and emptied before.

@@ -6,7 +6,7 @@ ghost use Rattle.device_table.specs.Write.{after_write};
 ghost use Rattle.device_relation.specs.Relation.{IsSound, IsPacket};
 ghost use Rattle.device_relation.specs.Port.{port_of, may_start, started, armed, stalled, addressed, without_endpoints};
 ghost use Rattle.device_relation.specs.Run.{with_table, unstalled, out_armed, run_start, run_arm, run_stall, run_address, run_close};
-ghost use Rattle.dwc2_device.specs.Driver.{joint, GoesOn};
+ghost use Rattle.dwc2_device.specs.Driver.{joint, Has, Spends};
 
 use crate::DevPort;
 use crate::words::STALL;
@@ -24,25 +24,19 @@ impl<R: Regs + Drop> DevPort<R> {
         requires sound { IsSound FS4 (joint self.old) }
         requires free { IsTrue (may_start (port_of (joint self.old)).bus.side) }
         requires heard { (port_of (joint self.old)).heard ≡ true }
-        requires spare { 2 ≤ self.old.bank.spare }
-        requires still { self.old.bank.due ≡ [] }
+        requires has { Has 2 self.old.bank }
         ensures port { port_of (joint self.new) ≡ started (port_of (joint self.old)) packet.now last }
         ensures sound { IsSound FS4 (joint self.new) }
-        ensures spare { self.old.bank.spare ≤ self.new.bank.spare + 2 }
-        ensures still { self.new.bank.due ≡ [] }
-        ensures goes { GoesOn self.old.bank self.new.bank }
+        ensures spends { Spends 2 self.old.bank self.new.bank }
     {
         packet_fits(packet);
         self.wait(packet, last);
     }
 
     pub(crate) fn wait(&mut self, packet: &Packet, last: bool)
-        requires spare { 2 ≤ self.old.bank.spare }
-        requires still { self.old.bank.due ≡ [] }
+        requires has { Has 2 self.old.bank }
         ensures joint { joint self.new ≡ run_start (joint self.old) packet.now last }
-        ensures spare { self.old.bank.spare ≤ self.new.bank.spare + 2 }
-        ensures still { self.new.bank.due ≡ [] }
-        ensures goes { GoesOn self.old.bank self.new.bank }
+        ensures spends { Spends 2 self.old.bank self.new.bank }
     {
         self.end_stall();
         self.side = Ready::Wait {
@@ -57,24 +51,18 @@ impl<R: Regs + Drop> DevPort<R> {
         requires sound { IsSound FS4 (joint self.old) }
         requires free { IsTrue (may_start (port_of (joint self.old)).bus.side) }
         requires heard { (port_of (joint self.old)).heard ≡ true }
-        requires spare { 3 ≤ self.old.bank.spare }
-        requires still { self.old.bank.due ≡ [] }
+        requires has { Has 3 self.old.bank }
         ensures port { port_of (joint self.new) ≡ armed (port_of (joint self.old)) }
         ensures sound { IsSound FS4 (joint self.new) }
-        ensures spare { self.old.bank.spare ≤ self.new.bank.spare + 3 }
-        ensures still { self.new.bank.due ≡ [] }
-        ensures goes { GoesOn self.old.bank self.new.bank }
+        ensures spends { Spends 3 self.old.bank self.new.bank }
     {
         self.arm();
     }
 
     pub(crate) fn arm(&mut self)
-        requires spare { 3 ≤ self.old.bank.spare }
-        requires still { self.old.bank.due ≡ [] }
+        requires has { Has 3 self.old.bank }
         ensures joint { joint self.new ≡ run_arm (joint self.old) }
-        ensures spare { self.old.bank.spare ≤ self.new.bank.spare + 3 }
-        ensures still { self.new.bank.due ≡ [] }
-        ensures goes { GoesOn self.old.bank self.new.bank }
+        ensures spends { Spends 3 self.old.bank self.new.bank }
     {
         self.end_stall();
         self.arm_out();
@@ -86,24 +74,18 @@ impl<R: Regs + Drop> DevPort<R> {
     pub fn stall_ep0(&mut self)
         requires sound { IsSound FS4 (joint self.old) }
         requires free { IsTrue (may_start (port_of (joint self.old)).bus.side) }
-        requires spare { 2 ≤ self.old.bank.spare }
-        requires still { self.old.bank.due ≡ [] }
+        requires has { Has 2 self.old.bank }
         ensures port { port_of (joint self.new) ≡ stalled (port_of (joint self.old)) }
         ensures sound { IsSound FS4 (joint self.new) }
-        ensures spare { self.old.bank.spare ≤ self.new.bank.spare + 2 }
-        ensures still { self.new.bank.due ≡ [] }
-        ensures goes { GoesOn self.old.bank self.new.bank }
+        ensures spends { Spends 2 self.old.bank self.new.bank }
     {
         self.stall();
     }
 
     pub(crate) fn stall(&mut self)
-        requires spare { 2 ≤ self.old.bank.spare }
-        requires still { self.old.bank.due ≡ [] }
+        requires has { Has 2 self.old.bank }
         ensures joint { joint self.new ≡ run_stall (joint self.old) }
-        ensures spare { self.old.bank.spare ≤ self.new.bank.spare + 2 }
-        ensures still { self.new.bank.due ≡ [] }
-        ensures goes { GoesOn self.old.bank self.new.bank }
+        ensures spends { Spends 2 self.old.bank self.new.bank }
     {
         self.write_in_control(0, STALL);
         self.write_out_control(0, STALL);
@@ -113,12 +95,9 @@ impl<R: Regs + Drop> DevPort<R> {
 
     /// STALL is kept as written, so that a write without it ends it.
     fn end_stall(&mut self)
-        requires spare { 2 ≤ self.old.bank.spare }
-        requires still { self.old.bank.due ≡ [] }
+        requires has { Has 2 self.old.bank }
         ensures joint { joint self.new ≡ with_table (joint self.old) (unstalled self.old.bank.table self.old.software.side) }
-        ensures spare { self.old.bank.spare ≤ self.new.bank.spare + 2 }
-        ensures still { self.new.bank.due ≡ [] }
-        ensures goes { GoesOn self.old.bank self.new.bank }
+        ensures spends { Spends 2 self.old.bank self.new.bank }
     {
         match self.side {
             Ready::Stall => {
@@ -148,24 +127,18 @@ impl<R: Regs + Drop> DevPort<R> {
     /// All endpoints but endpoint 0 are closed.
     pub fn close_all(&mut self)
         requires sound { IsSound FS4 (joint self.old) }
-        requires spare { 6 ≤ self.old.bank.spare }
-        requires still { self.old.bank.due ≡ [] }
+        requires has { Has 6 self.old.bank }
         ensures port { port_of (joint self.new) ≡ without_endpoints (port_of (joint self.old)) }
         ensures sound { IsSound FS4 (joint self.new) }
-        ensures spare { self.old.bank.spare ≤ self.new.bank.spare + 6 }
-        ensures still { self.new.bank.due ≡ [] }
-        ensures goes { GoesOn self.old.bank self.new.bank }
+        ensures spends { Spends 6 self.old.bank self.new.bank }
     {
         self.close();
     }
 
     fn close(&mut self)
-        requires spare { 6 ≤ self.old.bank.spare }
-        requires still { self.old.bank.due ≡ [] }
+        requires has { Has 6 self.old.bank }
         ensures joint { joint self.new ≡ run_close FS4 (joint self.old) }
-        ensures spare { self.old.bank.spare ≤ self.new.bank.spare + 6 }
-        ensures still { self.new.bank.due ≡ [] }
-        ensures goes { GoesOn self.old.bank self.new.bank }
+        ensures spends { Spends 6 self.old.bank self.new.bank }
     {
         self.close_others();
         self.open_ones = ArrayVec::new();

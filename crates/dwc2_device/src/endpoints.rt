@@ -6,7 +6,7 @@ ghost use Rattle.device_table.specs.Write.{after_write};
 ghost use Rattle.device_relation.specs.Relation.{IsSound};
 ghost use Rattle.device_relation.specs.Port.{port_of, with_endpoint, has_address};
 ghost use Rattle.device_relation.specs.Run.{run_open_out, run_open_in, open_word};
-ghost use Rattle.dwc2_device.specs.Driver.{joint, GoesOn};
+ghost use Rattle.dwc2_device.specs.Driver.{joint, Has, Spends};
 
 use crate::DevPort;
 use dwc2_access::Regs;
@@ -25,13 +25,10 @@ impl<R: Regs + Drop> DevPort<R> {
         requires most { ep.now.size ≤ 64 }
         requires shut { has_address ep.now.addr self.old.software.open_ones ≡ false }
         requires place { length self.old.software.open_ones < 30 }
-        requires spare { 1 ≤ self.old.bank.spare }
-        requires still { self.old.bank.due ≡ [] }
+        requires has { Has 1 self.old.bank }
         ensures port { port_of (joint self.new) ≡ with_endpoint (port_of (joint self.old)) ep.now }
         ensures sound { IsSound FS4 (joint self.new) }
-        ensures spare { self.old.bank.spare ≤ self.new.bank.spare + 1 }
-        ensures still { self.new.bank.due ≡ [] }
-        ensures goes { GoesOn self.old.bank self.new.bank }
+        ensures spends { Spends 1 self.old.bank self.new.bank }
     {
         if ep.addr < 128 {
             self.open_out(ep);
@@ -48,13 +45,10 @@ impl<R: Regs + Drop> DevPort<R> {
         requires most { ep.now.size ≤ 64 }
         requires shut { has_address ep.now.addr self.old.software.open_ones ≡ false }
         requires place { length self.old.software.open_ones < 30 }
-        requires spare { 1 ≤ self.old.bank.spare }
-        requires still { self.old.bank.due ≡ [] }
+        requires has { Has 1 self.old.bank }
         ensures port { port_of (joint self.new) ≡ with_endpoint (port_of (joint self.old)) ep.now }
         ensures sound { IsSound FS4 (joint self.new) }
-        ensures spare { self.old.bank.spare ≤ self.new.bank.spare + 1 }
-        ensures still { self.new.bank.due ≡ [] }
-        ensures goes { GoesOn self.old.bank self.new.bank }
+        ensures spends { Spends 1 self.old.bank self.new.bank }
     {
         self.add_out(ep);
     }
@@ -63,12 +57,9 @@ impl<R: Regs + Drop> DevPort<R> {
         requires high { ep.now.addr ≤ 3 }
         requires most { ep.now.size ≤ 64 }
         requires place { length self.old.software.open_ones < 30 }
-        requires spare { 1 ≤ self.old.bank.spare }
-        requires still { self.old.bank.due ≡ [] }
+        requires has { Has 1 self.old.bank }
         ensures joint { joint self.new ≡ run_open_out (joint self.old) ep.now }
-        ensures spare { self.old.bank.spare ≤ self.new.bank.spare + 1 }
-        ensures still { self.new.bank.due ≡ [] }
-        ensures goes { GoesOn self.old.bank self.new.bank }
+        ensures spends { Spends 1 self.old.bank self.new.bank }
     {
         self.write_out_control(ep.addr, control_word(ep, 0));
         self.open_ones.push(*ep);
@@ -82,13 +73,10 @@ impl<R: Regs + Drop> DevPort<R> {
         requires most { ep.now.size ≤ 64 }
         requires shut { has_address ep.now.addr self.old.software.open_ones ≡ false }
         requires place { length self.old.software.open_ones < 30 }
-        requires spare { 1 ≤ self.old.bank.spare }
-        requires still { self.old.bank.due ≡ [] }
+        requires has { Has 1 self.old.bank }
         ensures port { port_of (joint self.new) ≡ with_endpoint (port_of (joint self.old)) ep.now }
         ensures sound { IsSound FS4 (joint self.new) }
-        ensures spare { self.old.bank.spare ≤ self.new.bank.spare + 1 }
-        ensures still { self.new.bank.due ≡ [] }
-        ensures goes { GoesOn self.old.bank self.new.bank }
+        ensures spends { Spends 1 self.old.bank self.new.bank }
     {
         self.add_in(ep, ep.addr - 128);
     }
@@ -97,12 +85,9 @@ impl<R: Regs + Drop> DevPort<R> {
         requires high { number ≤ 3 }
         requires most { ep.now.size ≤ 64 }
         requires place { length self.old.software.open_ones < 30 }
-        requires spare { 1 ≤ self.old.bank.spare }
-        requires still { self.old.bank.due ≡ [] }
+        requires has { Has 1 self.old.bank }
         ensures joint { joint self.new ≡ run_open_in (joint self.old) ep.now number }
-        ensures spare { self.old.bank.spare ≤ self.new.bank.spare + 1 }
-        ensures still { self.new.bank.due ≡ [] }
-        ensures goes { GoesOn self.old.bank self.new.bank }
+        ensures spends { Spends 1 self.old.bank self.new.bank }
     {
         self.write_in_control(number, control_word(ep, number));
         self.open_ones.push(*ep);

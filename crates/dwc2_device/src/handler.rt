@@ -9,7 +9,7 @@ ghost use Rattle.device_relation.specs.Relation.{IsSound};
 ghost use Rattle.device_relation.specs.Port.{port_of, after_handler};
 ghost use Rattle.device_relation.specs.Run.{with_table, run, served_by, rest_served, sent_noted, sent_served, last_served, acknowledged, cleared_ack};
 ghost use Rattle.device_relation.specs.declared.software.Ready.TheVariants.{Loaded, Last};
-ghost use Rattle.dwc2_device.specs.Driver.{joint, GoesOn, Wakes};
+ghost use Rattle.dwc2_device.specs.Driver.{joint, Wakes, Has, Spends};
 
 use crate::DevPort;
 use crate::words::XFRC;
@@ -23,26 +23,20 @@ impl<R: Regs + Drop> DevPort<R> {
     /// else notes the last SETUP or loads the packet that waits.
     pub fn run_handler(&mut self)
         requires sound { IsSound FS4 (joint self.old) }
-        requires spare { 400 ≤ self.old.bank.spare }
-        requires still { self.old.bank.due ≡ [] }
+        requires has { Has 400 self.old.bank }
         ensures port { port_of (joint self.new) ≡ after_handler (port_of (joint self.old)) }
         ensures wakes { (port_of (joint self.old)).bus.reset ≡ true → Wakes self.new.bank }
         ensures sound { IsSound FS4 (joint self.new) }
-        ensures spare { self.old.bank.spare ≤ self.new.bank.spare + 200 }
-        ensures still { self.new.bank.due ≡ [] }
-        ensures goes { GoesOn self.old.bank self.new.bank }
+        ensures spends { Spends 200 self.old.bank self.new.bank }
     {
         self.handle();
     }
 
     pub(crate) fn handle(&mut self)
-        requires spare { 200 ≤ self.old.bank.spare }
-        requires still { self.old.bank.due ≡ [] }
+        requires has { Has 200 self.old.bank }
         ensures joint { joint self.new ≡ run FS4 (joint self.old) }
         ensures wakes { flag (value_read self.old.bank.table gintsts) GINTSTS_USBRST ≡ true → Wakes self.new.bank }
-        ensures spare { self.old.bank.spare ≤ self.new.bank.spare + 200 }
-        ensures still { self.new.bank.due ≡ [] }
-        ensures goes { GoesOn self.old.bank self.new.bank }
+        ensures spends { Spends 200 self.old.bank self.new.bank }
     {
         if self.find_reset() {
             self.serve_reset();
@@ -52,25 +46,19 @@ impl<R: Regs + Drop> DevPort<R> {
     }
 
     fn find_reset(&mut self) -> bool
-        requires spare { 1 ≤ self.old.bank.spare }
-        requires still { self.old.bank.due ≡ [] }
+        requires has { Has 1 self.old.bank }
         ensures value { result ≡ flag (value_read self.old.bank.table gintsts) GINTSTS_USBRST }
         ensures joint { joint self.new ≡ joint self.old }
-        ensures spare { self.old.bank.spare ≤ self.new.bank.spare + 1 }
-        ensures still { self.new.bank.due ≡ [] }
-        ensures goes { GoesOn self.old.bank self.new.bank }
+        ensures spends { Spends 1 self.old.bank self.new.bank }
     {
         get_field(self.read(GINTSTS), GINTSTS_USBRST) == 1
     }
 
     /// A run that finds no reset.
     fn serve(&mut self)
-        requires spare { 190 ≤ self.old.bank.spare }
-        requires still { self.old.bank.due ≡ [] }
+        requires has { Has 190 self.old.bank }
         ensures joint { joint self.new ≡ served_by (joint self.old) self.old.software.side }
-        ensures spare { self.old.bank.spare ≤ self.new.bank.spare + 190 }
-        ensures still { self.new.bank.due ≡ [] }
-        ensures goes { GoesOn self.old.bank self.new.bank }
+        ensures spends { Spends 190 self.old.bank self.new.bank }
     {
         match self.side {
             Ready::Loaded => self.serve_loaded(),
@@ -84,37 +72,28 @@ impl<R: Regs + Drop> DevPort<R> {
 
     /// Takes what came, and loads the packet that waits.
     fn serve_rest(&mut self)
-        requires spare { 181 ≤ self.old.bank.spare }
-        requires still { self.old.bank.due ≡ [] }
+        requires has { Has 181 self.old.bank }
         ensures joint { joint self.new ≡ rest_served (joint self.old) }
-        ensures spare { self.old.bank.spare ≤ self.new.bank.spare + 181 }
-        ensures still { self.new.bank.due ≡ [] }
-        ensures goes { GoesOn self.old.bank self.new.bank }
+        ensures spends { Spends 181 self.old.bank self.new.bank }
     {
         self.take_entries();
         self.load_waiting();
     }
 
     fn find_ack(&mut self) -> bool
-        requires spare { 1 ≤ self.old.bank.spare }
-        requires still { self.old.bank.due ≡ [] }
+        requires has { Has 1 self.old.bank }
         ensures value { result ≡ acknowledged (joint self.old) }
         ensures joint { joint self.new ≡ joint self.old }
-        ensures spare { self.old.bank.spare ≤ self.new.bank.spare + 1 }
-        ensures still { self.new.bank.due ≡ [] }
-        ensures goes { GoesOn self.old.bank self.new.bank }
+        ensures spends { Spends 1 self.old.bank self.new.bank }
     {
         get_field(self.read(diepint(0)), DIEPINT_XFRC) == 1
     }
 
     /// A packet was loaded: where the host acknowledged it, that stage is finished.
     fn serve_loaded(&mut self)
-        requires spare { 190 ≤ self.old.bank.spare }
-        requires still { self.old.bank.due ≡ [] }
+        requires has { Has 190 self.old.bank }
         ensures joint { joint self.new ≡ served_by (joint self.old) Loaded }
-        ensures spare { self.old.bank.spare ≤ self.new.bank.spare + 190 }
-        ensures still { self.new.bank.due ≡ [] }
-        ensures goes { GoesOn self.old.bank self.new.bank }
+        ensures spends { Spends 190 self.old.bank self.new.bank }
     {
         if self.find_ack() {
             self.serve_sent();
@@ -125,12 +104,9 @@ impl<R: Regs + Drop> DevPort<R> {
 
     /// It was acknowledged. Where the device gets a new address by that, nothing else is served (USB 2.0, 9.4.6).
     fn serve_sent(&mut self)
-        requires spare { 189 ≤ self.old.bank.spare }
-        requires still { self.old.bank.due ≡ [] }
+        requires has { Has 189 self.old.bank }
         ensures joint { joint self.new ≡ sent_served (joint self.old) self.old.software.next_address }
-        ensures spare { self.old.bank.spare ≤ self.new.bank.spare + 189 }
-        ensures still { self.new.bank.due ≡ [] }
-        ensures goes { GoesOn self.old.bank self.new.bank }
+        ensures spends { Spends 189 self.old.bank self.new.bank }
     {
         self.note_sent();
         match self.next_address {
@@ -143,12 +119,9 @@ impl<R: Regs + Drop> DevPort<R> {
     }
 
     fn note_sent(&mut self)
-        requires spare { 1 ≤ self.old.bank.spare }
-        requires still { self.old.bank.due ≡ [] }
+        requires has { Has 1 self.old.bank }
         ensures joint { joint self.new ≡ sent_noted (joint self.old) }
-        ensures spare { self.old.bank.spare ≤ self.new.bank.spare + 1 }
-        ensures still { self.new.bank.due ≡ [] }
-        ensures goes { GoesOn self.old.bank self.new.bank }
+        ensures spends { Spends 1 self.old.bank self.new.bank }
     {
         self.clear_in_interrupts(0, XFRC);
         self.side = Ready::Off;
@@ -157,12 +130,9 @@ impl<R: Regs + Drop> DevPort<R> {
 
     /// The last packet of data was loaded: where it was acknowledged, endpoint 0 is armed alone.
     fn serve_last(&mut self)
-        requires spare { 190 ≤ self.old.bank.spare }
-        requires still { self.old.bank.due ≡ [] }
+        requires has { Has 190 self.old.bank }
         ensures joint { joint self.new ≡ served_by (joint self.old) Last }
-        ensures spare { self.old.bank.spare ≤ self.new.bank.spare + 190 }
-        ensures still { self.new.bank.due ≡ [] }
-        ensures goes { GoesOn self.old.bank self.new.bank }
+        ensures spends { Spends 190 self.old.bank self.new.bank }
     {
         if self.find_ack() {
             self.clear_in_interrupts(0, XFRC);

@@ -9,7 +9,7 @@ ghost use Rattle.device_relation.specs.Software.{unused};
 ghost use Rattle.device_relation.specs.Relation.{IsSound, abstract};
 ghost use Rattle.device_relation.specs.Laws.{at_start};
 ghost use Rattle.device_relation.specs.Run.{with_table};
-ghost use Rattle.dwc2_device.specs.Driver.{joint, GoesOn};
+ghost use Rattle.dwc2_device.specs.Driver.{joint, Has, Spends};
 ghost use Rattle.dwc2_device.specs.Init.{masks_written, channel_masked, channels_masked, sizes_written};
 
 use crate::DevPort;
@@ -29,14 +29,11 @@ impl<R: Regs + Drop> DevPort<R> {
         requires plan { plan.now ≡ record { rx = rx_depth FS4; tx0 = tx0_depth; tx = tx_depth; ins = FS4.in_eps } }
         requires table { self.old.bank.table ≡ first FS4 }
         requires software { self.old.software ≡ unused false }
-        requires spare { 18 ≤ self.old.bank.spare }
-        requires still { self.old.bank.due ≡ [] }
+        requires has { Has 18 self.old.bank }
         ensures joint { joint self.new ≡ at_start FS4 }
         ensures device { abstract (joint self.new) ≡ unconfigured false }
         ensures sound { IsSound FS4 (joint self.new) }
-        ensures spare { self.old.bank.spare ≤ self.new.bank.spare + 18 }
-        ensures still { self.new.bank.due ≡ [] }
-        ensures goes { GoesOn self.old.bank self.new.bank }
+        ensures spends { Spends 18 self.old.bank self.new.bank }
     {
         self.write_all(plan);
     }
@@ -46,12 +43,9 @@ impl<R: Regs + Drop> DevPort<R> {
         requires plan { plan.now ≡ record { rx = rx_depth FS4; tx0 = tx0_depth; tx = tx_depth; ins = FS4.in_eps } }
         requires table { self.old.bank.table ≡ first FS4 }
         requires software { self.old.software ≡ unused false }
-        requires spare { 18 ≤ self.old.bank.spare }
-        requires still { self.old.bank.due ≡ [] }
+        requires has { Has 18 self.old.bank }
         ensures joint { joint self.new ≡ at_start FS4 }
-        ensures spare { self.old.bank.spare ≤ self.new.bank.spare + 18 }
-        ensures still { self.new.bank.due ≡ [] }
-        ensures goes { GoesOn self.old.bank self.new.bank }
+        ensures spends { Spends 18 self.old.bank self.new.bank }
     {
         self.write_masks();
         self.mask_channels();
@@ -60,12 +54,9 @@ impl<R: Regs + Drop> DevPort<R> {
 
     #[tactic(auto, unfolding(crate::specs::Init::masks_written))]
     fn write_masks(&mut self)
-        requires spare { 5 ≤ self.old.bank.spare }
-        requires still { self.old.bank.due ≡ [] }
+        requires has { Has 5 self.old.bank }
         ensures joint { joint self.new ≡ with_table (joint self.old) (masks_written self.old.bank.table) }
-        ensures spare { self.old.bank.spare ≤ self.new.bank.spare + 5 }
-        ensures still { self.new.bank.due ≡ [] }
-        ensures goes { GoesOn self.old.bank self.new.bank }
+        ensures spends { Spends 5 self.old.bank self.new.bank }
     {
         self.write(GINTMSK, ALL);
         self.write(DIEPMSK, ALL);
@@ -76,12 +67,9 @@ impl<R: Regs + Drop> DevPort<R> {
 
     fn mask_channel(&mut self, x: u8)
         requires known { x ≤ 7 }
-        requires spare { 1 ≤ self.old.bank.spare }
-        requires still { self.old.bank.due ≡ [] }
+        requires has { Has 1 self.old.bank }
         ensures joint { joint self.new ≡ with_table (joint self.old) (channel_masked self.old.bank.table x) }
-        ensures spare { self.old.bank.spare ≤ self.new.bank.spare + 1 }
-        ensures still { self.new.bank.due ≡ [] }
-        ensures goes { GoesOn self.old.bank self.new.bank }
+        ensures spends { Spends 1 self.old.bank self.new.bank }
     {
         self.write(hcintmsk(x), ALL);
     }
@@ -89,12 +77,9 @@ impl<R: Regs + Drop> DevPort<R> {
     /// The host's channels, which have no effect in device mode.
     #[tactic(auto, unfolding(crate::specs::Init::channels_masked))]
     fn mask_channels(&mut self)
-        requires spare { 8 ≤ self.old.bank.spare }
-        requires still { self.old.bank.due ≡ [] }
+        requires has { Has 8 self.old.bank }
         ensures joint { joint self.new ≡ with_table (joint self.old) (channels_masked FS4 self.old.bank.table) }
-        ensures spare { self.old.bank.spare ≤ self.new.bank.spare + 8 }
-        ensures still { self.new.bank.due ≡ [] }
-        ensures goes { GoesOn self.old.bank self.new.bank }
+        ensures spends { Spends 8 self.old.bank self.new.bank }
     {
         self.mask_channel(0);
         self.mask_channel(1);
@@ -109,12 +94,9 @@ impl<R: Regs + Drop> DevPort<R> {
     fn size_fifo(&mut self, x: u8, start: u16, depth: u16)
         requires from { 1 ≤ x }
         requires to { x ≤ 3 }
-        requires spare { 1 ≤ self.old.bank.spare }
-        requires still { self.old.bank.due ≡ [] }
+        requires has { Has 1 self.old.bank }
         ensures joint { joint self.new ≡ with_table (joint self.old) (after_write self.old.bank.table (dieptxf x) (fifo_size start depth)) }
-        ensures spare { self.old.bank.spare ≤ self.new.bank.spare + 1 }
-        ensures still { self.new.bank.due ≡ [] }
-        ensures goes { GoesOn self.old.bank self.new.bank }
+        ensures spends { Spends 1 self.old.bank self.new.bank }
     {
         self.write(dieptxf(x), size_word(start, depth));
     }
@@ -123,12 +105,9 @@ impl<R: Regs + Drop> DevPort<R> {
     #[tactic(auto, unfolding(crate::specs::Init::sizes_written))]
     fn write_sizes(&mut self, plan: &FifoPlan)
         requires plan { plan.now ≡ record { rx = rx_depth FS4; tx0 = tx0_depth; tx = tx_depth; ins = FS4.in_eps } }
-        requires spare { 5 ≤ self.old.bank.spare }
-        requires still { self.old.bank.due ≡ [] }
+        requires has { Has 5 self.old.bank }
         ensures joint { joint self.new ≡ with_table (joint self.old) (sizes_written FS4 self.old.bank.table) }
-        ensures spare { self.old.bank.spare ≤ self.new.bank.spare + 5 }
-        ensures still { self.new.bank.due ≡ [] }
-        ensures goes { GoesOn self.old.bank self.new.bank }
+        ensures spends { Spends 5 self.old.bank self.new.bank }
     {
         let first = plan.rx + plan.tx0;
         self.write(GRXFSIZ, plan.rx as u32);

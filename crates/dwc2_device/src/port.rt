@@ -8,7 +8,7 @@ ghost use Rattle.device_table.specs.Write.{write_table, after_write};
 ghost use Rattle.dwc2_regs.specs.Register.{diepctl, diepint, doepctl, doepint};
 ghost use Rattle.device_relation.specs.Software.{unused};
 ghost use Rattle.device_relation.specs.Run.{with_table};
-ghost use Rattle.dwc2_device.specs.Driver.{joint, GoesOn};
+ghost use Rattle.dwc2_device.specs.Driver.{joint, Has, Spends};
 
 use arrayvec::ArrayVec;
 use device_machine::Stage;
@@ -79,13 +79,10 @@ impl<R: Regs + Drop> DevPort<R> {
     #[inline(always)]
     pub(crate) fn read(&mut self, off: u16) -> u32
         requires known { IsRegister off }
-        requires spare { 1 ≤ self.old.bank.spare }
-        requires still { self.old.bank.due ≡ [] }
+        requires has { Has 1 self.old.bank }
         ensures value { result ≡ read_value self.old.bank.table off }
         ensures joint { joint self.new ≡ with_table (joint self.old) (read_table self.old.bank.table off) }
-        ensures spare { self.old.bank.spare ≤ self.new.bank.spare + 1 }
-        ensures still { self.new.bank.due ≡ [] }
-        ensures goes { GoesOn self.old.bank self.new.bank }
+        ensures spends { Spends 1 self.old.bank self.new.bank }
     {
         self.regs.read(off)
     }
@@ -94,12 +91,9 @@ impl<R: Regs + Drop> DevPort<R> {
     #[inline(always)]
     pub(crate) fn write(&mut self, off: u16, word: u32)
         requires known { IsRegister off }
-        requires spare { 1 ≤ self.old.bank.spare }
-        requires still { self.old.bank.due ≡ [] }
+        requires has { Has 1 self.old.bank }
         ensures joint { joint self.new ≡ with_table (joint self.old) (write_table self.old.bank.table off word) }
-        ensures spare { self.old.bank.spare ≤ self.new.bank.spare + 1 }
-        ensures still { self.new.bank.due ≡ [] }
-        ensures goes { GoesOn self.old.bank self.new.bank }
+        ensures spends { Spends 1 self.old.bank self.new.bank }
     {
         self.regs.write(off, word);
     }
@@ -109,13 +103,10 @@ impl<R: Regs + Drop> DevPort<R> {
     #[inline(always)]
     pub(crate) fn write_listed(&mut self, off: u16, word: u32)
         requires known { IsRegister off }
-        requires spare { 1 ≤ self.old.bank.spare }
-        requires still { self.old.bank.due ≡ [] }
+        requires has { Has 1 self.old.bank }
         ensures joint { joint self.new ≡ with_table (joint self.old) (write_table self.old.bank.table off word) }
         ensures told { self.new.bank.log ≡ self.old.bank.log ++ record { write = true; off = off; value = word } ∷ [] }
-        ensures spare { self.old.bank.spare ≤ self.new.bank.spare + 1 }
-        ensures still { self.new.bank.due ≡ [] }
-        ensures goes { GoesOn self.old.bank self.new.bank }
+        ensures spends { Spends 1 self.old.bank self.new.bank }
     {
         self.regs.write(off, word);
     }
@@ -124,12 +115,9 @@ impl<R: Regs + Drop> DevPort<R> {
     #[inline(always)]
     pub(crate) fn write_in_control(&mut self, x: u8, word: u32)
         requires known { x ≤ 11 }
-        requires spare { 1 ≤ self.old.bank.spare }
-        requires still { self.old.bank.due ≡ [] }
+        requires has { Has 1 self.old.bank }
         ensures joint { joint self.new ≡ with_table (joint self.old) (after_write self.old.bank.table (diepctl x) word) }
-        ensures spare { self.old.bank.spare ≤ self.new.bank.spare + 1 }
-        ensures still { self.new.bank.due ≡ [] }
-        ensures goes { GoesOn self.old.bank self.new.bank }
+        ensures spends { Spends 1 self.old.bank self.new.bank }
     {
         self.write(diepctl(x), word);
     }
@@ -138,12 +126,9 @@ impl<R: Regs + Drop> DevPort<R> {
     #[inline(always)]
     pub(crate) fn write_out_control(&mut self, x: u8, word: u32)
         requires known { x ≤ 11 }
-        requires spare { 1 ≤ self.old.bank.spare }
-        requires still { self.old.bank.due ≡ [] }
+        requires has { Has 1 self.old.bank }
         ensures joint { joint self.new ≡ with_table (joint self.old) (after_write self.old.bank.table (doepctl x) word) }
-        ensures spare { self.old.bank.spare ≤ self.new.bank.spare + 1 }
-        ensures still { self.new.bank.due ≡ [] }
-        ensures goes { GoesOn self.old.bank self.new.bank }
+        ensures spends { Spends 1 self.old.bank self.new.bank }
     {
         self.write(doepctl(x), word);
     }
@@ -152,12 +137,9 @@ impl<R: Regs + Drop> DevPort<R> {
     #[inline(always)]
     pub(crate) fn clear_in_interrupts(&mut self, x: u8, word: u32)
         requires known { x ≤ 11 }
-        requires spare { 1 ≤ self.old.bank.spare }
-        requires still { self.old.bank.due ≡ [] }
+        requires has { Has 1 self.old.bank }
         ensures joint { joint self.new ≡ with_table (joint self.old) (after_write self.old.bank.table (diepint x) word) }
-        ensures spare { self.old.bank.spare ≤ self.new.bank.spare + 1 }
-        ensures still { self.new.bank.due ≡ [] }
-        ensures goes { GoesOn self.old.bank self.new.bank }
+        ensures spends { Spends 1 self.old.bank self.new.bank }
     {
         self.write(diepint(x), word);
     }
@@ -166,12 +148,9 @@ impl<R: Regs + Drop> DevPort<R> {
     #[inline(always)]
     pub(crate) fn clear_out_interrupts(&mut self, x: u8, word: u32)
         requires known { x ≤ 11 }
-        requires spare { 1 ≤ self.old.bank.spare }
-        requires still { self.old.bank.due ≡ [] }
+        requires has { Has 1 self.old.bank }
         ensures joint { joint self.new ≡ with_table (joint self.old) (after_write self.old.bank.table (doepint x) word) }
-        ensures spare { self.old.bank.spare ≤ self.new.bank.spare + 1 }
-        ensures still { self.new.bank.due ≡ [] }
-        ensures goes { GoesOn self.old.bank self.new.bank }
+        ensures spends { Spends 1 self.old.bank self.new.bank }
     {
         self.write(doepint(x), word);
     }

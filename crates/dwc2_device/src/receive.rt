@@ -7,7 +7,7 @@ ghost use Rattle.dwc2_fifo.specs.Words.{word_count, bytes_in};
 ghost use Rattle.device_table.specs.Read.{value_read, after_read};
 ghost use Rattle.device_table.specs.Write.{after_write};
 ghost use Rattle.device_relation.specs.Run.{with_table, after_words, words_read, bytes_read, packet_taken, setup_taken, setup_ended, entry_taken, entries_taken, byte_count, most_entries};
-ghost use Rattle.dwc2_device.specs.Driver.{joint, GoesOn};
+ghost use Rattle.dwc2_device.specs.Driver.{joint, Has, Spends};
 
 use crate::DevPort;
 use crate::words::{ALL_OUT_INTERRUPTS, SNAK_EPDIS, XFRC};
@@ -45,12 +45,9 @@ impl<R: Regs + Drop> DevPort<R> {
     /// Takes what lies in the receive FIFO, entry by entry: a packet and three SETUPs at most, of two entries each.
     #[tactic(auto, using(crate::proofs::Loops::steps))]
     pub(crate) fn take_entries(&mut self)
-        requires spare { 160 ≤ self.old.bank.spare }
-        requires still { self.old.bank.due ≡ [] }
+        requires has { Has 160 self.old.bank }
         ensures joint { joint self.new ≡ entries_taken most_entries (joint self.old) }
-        ensures spare { self.old.bank.spare ≤ self.new.bank.spare + 160 }
-        ensures still { self.new.bank.due ≡ [] }
-        ensures goes { GoesOn self.old.bank self.new.bank }
+        ensures spends { Spends 160 self.old.bank self.new.bank }
     {
         for _ in 0..MOST_ENTRIES {
             let status = self.pop();
@@ -62,25 +59,19 @@ impl<R: Regs + Drop> DevPort<R> {
     }
 
     pub(crate) fn pop(&mut self) -> u32
-        requires spare { 1 ≤ self.old.bank.spare }
-        requires still { self.old.bank.due ≡ [] }
+        requires has { Has 1 self.old.bank }
         ensures value { result ≡ value_read self.old.bank.table grxstsp }
         ensures joint { joint self.new ≡ with_table (joint self.old) (after_read self.old.bank.table grxstsp) }
-        ensures spare { self.old.bank.spare ≤ self.new.bank.spare + 1 }
-        ensures still { self.new.bank.due ≡ [] }
-        ensures goes { GoesOn self.old.bank self.new.bank }
+        ensures spends { Spends 1 self.old.bank self.new.bank }
     {
         self.read(GRXSTSP)
     }
 
     /// What the entry is whose status was popped.
     fn take_entry(&mut self, status: u32)
-        requires spare { 19 ≤ self.old.bank.spare }
-        requires still { self.old.bank.due ≡ [] }
+        requires has { Has 19 self.old.bank }
         ensures joint { joint self.new ≡ entry_taken (joint self.old) status }
-        ensures spare { self.old.bank.spare ≤ self.new.bank.spare + 19 }
-        ensures still { self.new.bank.due ≡ [] }
-        ensures goes { GoesOn self.old.bank self.new.bank }
+        ensures spends { Spends 19 self.old.bank self.new.bank }
     {
         match get_field(status, GRXSTSP_STATUS) {
             SETUP_DATA => self.take_setup(),
@@ -93,12 +84,9 @@ impl<R: Regs + Drop> DevPort<R> {
 
     /// The bytes of a SETUP.
     fn take_setup(&mut self)
-        requires spare { 2 ≤ self.old.bank.spare }
-        requires still { self.old.bank.due ≡ [] }
+        requires has { Has 2 self.old.bank }
         ensures joint { joint self.new ≡ setup_taken (joint self.old) }
-        ensures spare { self.old.bank.spare ≤ self.new.bank.spare + 2 }
-        ensures still { self.new.bank.due ≡ [] }
-        ensures goes { GoesOn self.old.bank self.new.bank }
+        ensures spends { Spends 2 self.old.bank self.new.bank }
     {
         let low = self.read(fifo_window(0));
         let high = self.read(fifo_window(0));
@@ -107,12 +95,9 @@ impl<R: Regs + Drop> DevPort<R> {
 
     /// At the end of a SETUP endpoint 0 is disabled, and what was ready is forgotten.
     fn end_setup(&mut self)
-        requires spare { 3 ≤ self.old.bank.spare }
-        requires still { self.old.bank.due ≡ [] }
+        requires has { Has 3 self.old.bank }
         ensures joint { joint self.new ≡ setup_ended (joint self.old) }
-        ensures spare { self.old.bank.spare ≤ self.new.bank.spare + 3 }
-        ensures still { self.new.bank.due ≡ [] }
-        ensures goes { GoesOn self.old.bank self.new.bank }
+        ensures spends { Spends 3 self.old.bank self.new.bank }
     {
         self.write_in_control(0, SNAK_EPDIS);
         self.write_out_control(0, SNAK_EPDIS);
@@ -124,12 +109,9 @@ impl<R: Regs + Drop> DevPort<R> {
 
     /// A packet of so many bytes.
     fn take_packet(&mut self, bytes: u32)
-        requires spare { 16 ≤ self.old.bank.spare }
-        requires still { self.old.bank.due ≡ [] }
+        requires has { Has 16 self.old.bank }
         ensures joint { joint self.new ≡ packet_taken (joint self.old) (min bytes 64) }
-        ensures spare { self.old.bank.spare ≤ self.new.bank.spare + 16 }
-        ensures still { self.new.bank.due ≡ [] }
-        ensures goes { GoesOn self.old.bank self.new.bank }
+        ensures spends { Spends 16 self.old.bank self.new.bank }
     {
         let packet = self.read_packet(bytes.min(64) as usize);
         self.side = Ready::Off;
@@ -140,13 +122,10 @@ impl<R: Regs + Drop> DevPort<R> {
     /// The words of a packet of so many bytes are read.
     fn read_packet(&mut self, bytes: usize) -> Packet
         requires few { bytes ≤ 64 }
-        requires spare { 16 ≤ self.old.bank.spare }
-        requires still { self.old.bank.due ≡ [] }
+        requires has { Has 16 self.old.bank }
         ensures value { result ≡ bytes_read bytes self.old.bank.table }
         ensures joint { joint self.new ≡ with_table (joint self.old) (after_words (word_count bytes) self.old.bank.table) }
-        ensures spare { self.old.bank.spare ≤ self.new.bank.spare + 16 }
-        ensures still { self.new.bank.due ≡ [] }
-        ensures goes { GoesOn self.old.bank self.new.bank }
+        ensures spends { Spends 16 self.old.bank self.new.bank }
     {
         let mut items = self.read_words(bytes.div_ceil(4));
         items.truncate(bytes);
@@ -160,13 +139,10 @@ impl<R: Regs + Drop> DevPort<R> {
     #[tactic(auto, using(crate::proofs::Loops::steps))]
     fn read_words(&mut self, words: usize) -> ArrayVec<u8, 64>
         requires few { words ≤ 16 }
-        requires spare { 16 ≤ self.old.bank.spare }
-        requires still { self.old.bank.due ≡ [] }
+        requires has { Has 16 self.old.bank }
         ensures value { result.items ≡ bytes_in (words_read words self.old.bank.table.rx.left) }
         ensures joint { joint self.new ≡ with_table (joint self.old) (after_words words self.old.bank.table) }
-        ensures spare { self.old.bank.spare ≤ self.new.bank.spare + 16 }
-        ensures still { self.new.bank.due ≡ [] }
-        ensures goes { GoesOn self.old.bank self.new.bank }
+        ensures spends { Spends 16 self.old.bank self.new.bank }
     {
         let mut items = ArrayVec::new();
         for _ in 0..words {

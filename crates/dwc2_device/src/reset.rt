@@ -5,7 +5,7 @@ ghost use Rattle.dwc2_regs.specs.Register.{dcfg, grstctl, gintsts};
 ghost use Rattle.device_table.specs.Write.{after_write};
 ghost use Rattle.device_relation.specs.Software.{unused};
 ghost use Rattle.device_relation.specs.Run.{with_table, pipe_closed, pipes_closed, others_closed, interrupts_cleared, all_cleared, popped_all, reset_served, flush_all, reset_bits};
-ghost use Rattle.dwc2_device.specs.Driver.{joint, GoesOn, Wakes};
+ghost use Rattle.dwc2_device.specs.Driver.{joint, Wakes, Has, Spends};
 
 use crate::DevPort;
 use crate::receive::MOST_ENTRIES;
@@ -18,13 +18,10 @@ use dwc2_regs::{DCFG, GINTSTS, GRSTCTL};
 impl<R: Regs + Drop> DevPort<R> {
     /// All endpoints are closed and all FIFOs emptied before the bits of the reset are cleared, which wakes the device.
     pub(crate) fn serve_reset(&mut self)
-        requires spare { 27 ≤ self.old.bank.spare }
-        requires still { self.old.bank.due ≡ [] }
+        requires has { Has 27 self.old.bank }
         ensures joint { joint self.new ≡ record { table = reset_served FS4 self.old.bank.table; software = unused true } }
         ensures wakes { Wakes self.new.bank }
-        ensures spare { self.old.bank.spare ≤ self.new.bank.spare + 27 }
-        ensures still { self.new.bank.due ≡ [] }
-        ensures goes { GoesOn self.old.bank self.new.bank }
+        ensures spends { Spends 27 self.old.bank self.new.bank }
     {
         self.write_dcfg(0);
         self.close_pipes();
@@ -48,36 +45,27 @@ impl<R: Regs + Drop> DevPort<R> {
     }
 
     pub(crate) fn write_dcfg(&mut self, word: u32)
-        requires spare { 1 ≤ self.old.bank.spare }
-        requires still { self.old.bank.due ≡ [] }
+        requires has { Has 1 self.old.bank }
         ensures joint { joint self.new ≡ with_table (joint self.old) (after_write self.old.bank.table dcfg word) }
-        ensures spare { self.old.bank.spare ≤ self.new.bank.spare + 1 }
-        ensures still { self.new.bank.due ≡ [] }
-        ensures goes { GoesOn self.old.bank self.new.bank }
+        ensures spends { Spends 1 self.old.bank self.new.bank }
     {
         self.write(DCFG, word);
     }
 
     fn flush_all(&mut self)
-        requires spare { 1 ≤ self.old.bank.spare }
-        requires still { self.old.bank.due ≡ [] }
+        requires has { Has 1 self.old.bank }
         ensures joint { joint self.new ≡ with_table (joint self.old) (after_write self.old.bank.table grstctl flush_all) }
-        ensures spare { self.old.bank.spare ≤ self.new.bank.spare + 1 }
-        ensures still { self.new.bank.due ≡ [] }
-        ensures goes { GoesOn self.old.bank self.new.bank }
+        ensures spends { Spends 1 self.old.bank self.new.bank }
     {
         self.write(GRSTCTL, FLUSH_ALL);
     }
 
     #[tactic(auto, using(crate::proofs::Goes::wakes_last))]
     fn end_reset(&mut self)
-        requires spare { 1 ≤ self.old.bank.spare }
-        requires still { self.old.bank.due ≡ [] }
+        requires has { Has 1 self.old.bank }
         ensures joint { joint self.new ≡ with_table (joint self.old) (after_write self.old.bank.table gintsts reset_bits) }
         ensures wakes { Wakes self.new.bank }
-        ensures spare { self.old.bank.spare ≤ self.new.bank.spare + 1 }
-        ensures still { self.new.bank.due ≡ [] }
-        ensures goes { GoesOn self.old.bank self.new.bank }
+        ensures spends { Spends 1 self.old.bank self.new.bank }
     {
         self.write_listed(GINTSTS, RESET_BITS);
     }
@@ -85,12 +73,9 @@ impl<R: Regs + Drop> DevPort<R> {
     /// Both directions of one endpoint answer NAK and are disabled and closed.
     fn close_pipe(&mut self, x: u8)
         requires known { x ≤ 3 }
-        requires spare { 2 ≤ self.old.bank.spare }
-        requires still { self.old.bank.due ≡ [] }
+        requires has { Has 2 self.old.bank }
         ensures joint { joint self.new ≡ with_table (joint self.old) (pipe_closed self.old.bank.table x) }
-        ensures spare { self.old.bank.spare ≤ self.new.bank.spare + 2 }
-        ensures still { self.new.bank.due ≡ [] }
-        ensures goes { GoesOn self.old.bank self.new.bank }
+        ensures spends { Spends 2 self.old.bank self.new.bank }
     {
         self.write_in_control(x, SNAK_EPDIS);
         self.write_out_control(x, SNAK_EPDIS);
@@ -98,12 +83,9 @@ impl<R: Regs + Drop> DevPort<R> {
 
     #[tactic(auto, unfolding(device_relation::specs::Run::pipes_closed))]
     fn close_pipes(&mut self)
-        requires spare { 8 ≤ self.old.bank.spare }
-        requires still { self.old.bank.due ≡ [] }
+        requires has { Has 8 self.old.bank }
         ensures joint { joint self.new ≡ with_table (joint self.old) (pipes_closed FS4 self.old.bank.table) }
-        ensures spare { self.old.bank.spare ≤ self.new.bank.spare + 8 }
-        ensures still { self.new.bank.due ≡ [] }
-        ensures goes { GoesOn self.old.bank self.new.bank }
+        ensures spends { Spends 8 self.old.bank self.new.bank }
     {
         self.close_pipe(0);
         self.close_others();
@@ -111,12 +93,9 @@ impl<R: Regs + Drop> DevPort<R> {
 
     /// All endpoints but endpoint 0.
     pub(crate) fn close_others(&mut self)
-        requires spare { 6 ≤ self.old.bank.spare }
-        requires still { self.old.bank.due ≡ [] }
+        requires has { Has 6 self.old.bank }
         ensures joint { joint self.new ≡ with_table (joint self.old) (others_closed FS4 self.old.bank.table) }
-        ensures spare { self.old.bank.spare ≤ self.new.bank.spare + 6 }
-        ensures still { self.new.bank.due ≡ [] }
-        ensures goes { GoesOn self.old.bank self.new.bank }
+        ensures spends { Spends 6 self.old.bank self.new.bank }
     {
         self.close_pipe(1);
         self.close_pipe(2);
@@ -125,12 +104,9 @@ impl<R: Regs + Drop> DevPort<R> {
 
     fn clear_interrupts(&mut self, x: u8)
         requires known { x ≤ 3 }
-        requires spare { 2 ≤ self.old.bank.spare }
-        requires still { self.old.bank.due ≡ [] }
+        requires has { Has 2 self.old.bank }
         ensures joint { joint self.new ≡ with_table (joint self.old) (interrupts_cleared self.old.bank.table x) }
-        ensures spare { self.old.bank.spare ≤ self.new.bank.spare + 2 }
-        ensures still { self.new.bank.due ≡ [] }
-        ensures goes { GoesOn self.old.bank self.new.bank }
+        ensures spends { Spends 2 self.old.bank self.new.bank }
     {
         self.clear_in_interrupts(x, ALL_IN_INTERRUPTS);
         self.clear_out_interrupts(x, ALL_OUT_INTERRUPTS);
@@ -138,12 +114,9 @@ impl<R: Regs + Drop> DevPort<R> {
 
     #[tactic(auto, unfolding(device_relation::specs::Run::all_cleared))]
     fn clear_all(&mut self)
-        requires spare { 8 ≤ self.old.bank.spare }
-        requires still { self.old.bank.due ≡ [] }
+        requires has { Has 8 self.old.bank }
         ensures joint { joint self.new ≡ with_table (joint self.old) (all_cleared FS4 self.old.bank.table) }
-        ensures spare { self.old.bank.spare ≤ self.new.bank.spare + 8 }
-        ensures still { self.new.bank.due ≡ [] }
-        ensures goes { GoesOn self.old.bank self.new.bank }
+        ensures spends { Spends 8 self.old.bank self.new.bank }
     {
         self.clear_interrupts(0);
         self.clear_interrupts(1);
@@ -154,12 +127,9 @@ impl<R: Regs + Drop> DevPort<R> {
     /// The receive FIFO is popped, and no word read.
     #[tactic(auto, using(crate::proofs::Loops::steps))]
     fn pop_all(&mut self)
-        requires spare { 8 ≤ self.old.bank.spare }
-        requires still { self.old.bank.due ≡ [] }
+        requires has { Has 8 self.old.bank }
         ensures joint { joint self.new ≡ with_table (joint self.old) (popped_all 8 self.old.bank.table) }
-        ensures spare { self.old.bank.spare ≤ self.new.bank.spare + 8 }
-        ensures still { self.new.bank.due ≡ [] }
-        ensures goes { GoesOn self.old.bank self.new.bank }
+        ensures spends { Spends 8 self.old.bank self.new.bank }
     {
         for _ in 0..MOST_ENTRIES {
             if self.pop() == 0 {

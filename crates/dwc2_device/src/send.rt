@@ -5,7 +5,7 @@ ghost use Rattle.dwc2_fifo.specs.Words.{words_of};
 ghost use Rattle.device_table.specs.Write.{after_write};
 ghost use Rattle.device_relation.specs.Relation.{one_packet};
 ghost use Rattle.device_relation.specs.Run.{with_table, words_written, packet_loaded, out_armed, packet_ready, waiting_loaded, loaded_from};
-ghost use Rattle.dwc2_device.specs.Driver.{joint, GoesOn};
+ghost use Rattle.dwc2_device.specs.Driver.{joint, Has, Spends};
 
 use crate::DevPort;
 use crate::words::{CNAK, CNAK_EPENA, SNAK_EPENA, XFRC};
@@ -21,12 +21,9 @@ const ONE_PACKET: u32 = 1 << 19;
 impl<R: Regs + Drop> DevPort<R> {
     /// Loads the packet that waits, where one does.
     pub(crate) fn load_waiting(&mut self)
-        requires spare { 21 ≤ self.old.bank.spare }
-        requires still { self.old.bank.due ≡ [] }
+        requires has { Has 21 self.old.bank }
         ensures joint { joint self.new ≡ waiting_loaded (joint self.old) }
-        ensures spare { self.old.bank.spare ≤ self.new.bank.spare + 21 }
-        ensures still { self.new.bank.due ≡ [] }
-        ensures goes { GoesOn self.old.bank self.new.bank }
+        ensures spends { Spends 21 self.old.bank self.new.bank }
     {
         match mem::replace(&mut self.side, Ready::Loaded) {
             Ready::Wait { packet, last } => self.load(&packet, last),
@@ -40,12 +37,9 @@ impl<R: Regs + Drop> DevPort<R> {
 
     /// Loads a packet, and arms the status stage with the last one of its data (USB 2.0, 8.5.3.3).
     fn load(&mut self, packet: &Packet, last: bool)
-        requires spare { 21 ≤ self.old.bank.spare }
-        requires still { self.old.bank.due ≡ [] }
+        requires has { Has 21 self.old.bank }
         ensures joint { joint self.new ≡ packet_ready (joint self.old) packet.now last }
-        ensures spare { self.old.bank.spare ≤ self.new.bank.spare + 21 }
-        ensures still { self.new.bank.due ≡ [] }
-        ensures goes { GoesOn self.old.bank self.new.bank }
+        ensures spends { Spends 21 self.old.bank self.new.bank }
     {
         self.write_packet(packet.bytes());
         if last {
@@ -59,12 +53,9 @@ impl<R: Regs + Drop> DevPort<R> {
     /// Its size, SNAK and EPENA, its words; then XFRC is cleared, and last of all the NAK ends.
     fn write_packet(&mut self, packet: &[u8])
         requires few { length packet.now ≤ 64 }
-        requires spare { 20 ≤ self.old.bank.spare }
-        requires still { self.old.bank.due ≡ [] }
+        requires has { Has 20 self.old.bank }
         ensures joint { joint self.new ≡ with_table (joint self.old) (packet_loaded self.old.bank.table packet.now) }
-        ensures spare { self.old.bank.spare ≤ self.new.bank.spare + 20 }
-        ensures still { self.new.bank.due ≡ [] }
-        ensures goes { GoesOn self.old.bank self.new.bank }
+        ensures spends { Spends 20 self.old.bank self.new.bank }
     {
         self.write_size(packet.len() as u32);
         self.write_in_control(0, SNAK_EPENA);
@@ -75,12 +66,9 @@ impl<R: Regs + Drop> DevPort<R> {
 
     fn write_size(&mut self, bytes: u32)
         requires few { bytes ≤ 64 }
-        requires spare { 1 ≤ self.old.bank.spare }
-        requires still { self.old.bank.due ≡ [] }
+        requires has { Has 1 self.old.bank }
         ensures joint { joint self.new ≡ with_table (joint self.old) (after_write self.old.bank.table (dieptsiz 0) (one_packet bytes)) }
-        ensures spare { self.old.bank.spare ≤ self.new.bank.spare + 1 }
-        ensures still { self.new.bank.due ≡ [] }
-        ensures goes { GoesOn self.old.bank self.new.bank }
+        ensures spends { Spends 1 self.old.bank self.new.bank }
     {
         self.write(DIEPTSIZ0, ONE_PACKET + bytes);
     }
@@ -89,12 +77,9 @@ impl<R: Regs + Drop> DevPort<R> {
     #[tactic(auto, using(crate::proofs::Chunks::chunks))]
     fn write_words(&mut self, packet: &[u8])
         requires few { length packet.now ≤ 64 }
-        requires spare { 16 ≤ self.old.bank.spare }
-        requires still { self.old.bank.due ≡ [] }
+        requires has { Has 16 self.old.bank }
         ensures joint { joint self.new ≡ with_table (joint self.old) (words_written self.old.bank.table (words_of packet.now)) }
-        ensures spare { self.old.bank.spare ≤ self.new.bank.spare + 16 }
-        ensures still { self.new.bank.due ≡ [] }
-        ensures goes { GoesOn self.old.bank self.new.bank }
+        ensures spends { Spends 16 self.old.bank self.new.bank }
     {
         let mut rest = packet;
         while !rest.is_empty() {
@@ -105,12 +90,9 @@ impl<R: Regs + Drop> DevPort<R> {
     }
 
     fn write_word(&mut self, word: u32)
-        requires spare { 1 ≤ self.old.bank.spare }
-        requires still { self.old.bank.due ≡ [] }
+        requires has { Has 1 self.old.bank }
         ensures joint { joint self.new ≡ with_table (joint self.old) (after_write self.old.bank.table (fifo 0) word) }
-        ensures spare { self.old.bank.spare ≤ self.new.bank.spare + 1 }
-        ensures still { self.new.bank.due ≡ [] }
-        ensures goes { GoesOn self.old.bank self.new.bank }
+        ensures spends { Spends 1 self.old.bank self.new.bank }
     {
         self.write(fifo_window(0), word);
     }
@@ -118,12 +100,9 @@ impl<R: Regs + Drop> DevPort<R> {
     /// Endpoint 0 is enabled for a packet from the host. Where one came since the last SETUP it answers NAK: each one that
     /// comes is that packet again (USB 2.0, 8.6.4).
     pub(crate) fn arm_out(&mut self)
-        requires spare { 1 ≤ self.old.bank.spare }
-        requires still { self.old.bank.due ≡ [] }
+        requires has { Has 1 self.old.bank }
         ensures joint { joint self.new ≡ with_table (joint self.old) (out_armed self.old.bank.table self.old.software.heard) }
-        ensures spare { self.old.bank.spare ≤ self.new.bank.spare + 1 }
-        ensures still { self.new.bank.due ≡ [] }
-        ensures goes { GoesOn self.old.bank self.new.bank }
+        ensures spends { Spends 1 self.old.bank self.new.bank }
     {
         let word = match self.heard {
             Heard::Packet => SNAK_EPENA,

@@ -17,7 +17,7 @@ loop-preserved g c =
     let taken : joint c.take_entry.new.self ≡ entry_taken popped (value_read j.table grxstsp) =
     c.take_entry.ensures.joint ∙ ap (λ (x : Joint). entry_taken x c.pop-status.result) c.pop-status.ensures.joint ∙ ap (λ (n : ℕ). entry_taken popped n) value in (
       ap (λ (x : Joint). entries_taken (8 - (c.loop.counter + 1)) x) taken ∙ sym (taken_some c.loop.counter j c.loop-test.true some) ∙ c.loop.invariant.0,
-      omega (arith, c.take_entry.ensures.spare, c.pop-status.ensures.spare, c.loop.invariant.1),
-      c.take_entry.ensures.still,
-      λ start m. c.take_entry.ensures.goes start (c.pop-status.ensures.goes start (c.loop.invariant.3 start m)),
+      omega (arith, c.take_entry.ensures.spends.0, c.pop-status.ensures.spends.0, c.loop.invariant.1),
+      c.take_entry.ensures.spends.1,
+      λ start m. c.take_entry.ensures.spends.2 start (c.pop-status.ensures.spends.2 start (c.loop.invariant.3 start m)),
     )
