@@ -1,8 +1,23 @@
 -- What a task needs of endpoint 0 before it gives it a stage, and the endpoints that it opens.
 use Rattle.std.specs.Prelude.{◌≡◌, ℕ, true, IsTrue, List, Option, Some, None}
 use Rattle.usb_descriptor.specs.declared.endpoint.Endpoint.{Endpoint}
+use Rattle.dwc2_regs.specs.declared.access.Profile.{Profile}
+use Rattle.device_relation.specs.Relation.{IsSound}
 use Rattle.device_relation.specs.Port.{Port, may_start}
-use Rattle.usbd_core.specs.Device.{KeepsAddress}
+use Rattle.dwc2_device.specs.Driver.{joint, Has, Spends}
+use Rattle.usbd_core.specs.Device.{Device, KeepsAddress, Fits, port_in}
+
+-- controller, driver and software agree, but for the notes
+abbrev pub Holds : Profile → Device → Type 0
+Holds profile d = IsSound profile (joint d.port) × Fits profile d.set (port_in d) d.state d.transfer
+
+-- what a part of a task needs: they agree, so many accesses may be made, and nothing is due on the bus
+abbrev pub Needs : Profile → ℕ → Device → Type 0
+Needs profile n d = Holds profile d × Has n d.port.bank
+
+-- and what it leaves: they agree again, at most so many accesses were made, and the descriptors are the same
+abbrev pub Leaves : Profile → ℕ → Device → Device → Type 0
+Leaves profile n old new = Holds profile new × Spends n old.port.bank new.port.bank × (new.set ≡ old.set)
 
 -- A SETUP came since the last reset, and nothing is on its way on endpoint 0. What waits there brings no address.
 pub record IsFree (p : Port) : Type 0 where

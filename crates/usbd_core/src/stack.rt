@@ -4,7 +4,7 @@ ghost use Rattle.usb_descriptor.specs.Set.{IsAccepted};
 ghost use Rattle.dwc2_regs.specs.declared.access.TheConstants.{FS4};
 ghost use Rattle.device_table.specs.State.{first, opened};
 ghost use Rattle.device_machine.specs.Core.{start, state_of, after_irq};
-ghost use Rattle.dwc2_device.specs.Driver.{GoesOn};
+ghost use Rattle.dwc2_device.specs.Driver.{Has, Spends};
 ghost use Rattle.usbd_core.specs.Device.{tops, core_of, Agrees};
 ghost use Rattle.usbd_core.specs.Hears.{forgotten, sent, after_note};
 
@@ -104,14 +104,11 @@ impl<R: Regs + Drop> DevStack<R> {
     /// was the status stage of SET_ADDRESS, and else notes the last SETUP or loads the packet that waits.
     pub fn irq(&mut self)
         requires agrees { Agrees FS4 self.old }
-        requires spare { 400 ≤ self.old.port.bank.spare }
-        requires still { self.old.port.bank.due ≡ [] }
+        requires has { Has 400 self.old.port.bank }
         ensures core { core_of self.new ≡ after_irq (core_of self.old) }
         ensures agrees { Agrees FS4 self.new }
         ensures set { self.new.set ≡ self.old.set }
-        ensures spare { self.old.port.bank.spare ≤ self.new.port.bank.spare + 200 }
-        ensures still { self.new.port.bank.due ≡ [] }
-        ensures goes { GoesOn self.old.port.bank self.new.port.bank }
+        ensures spends { Spends 200 self.old.port.bank self.new.port.bank }
     {
         self.port.run_handler();
         self.hear();

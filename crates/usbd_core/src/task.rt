@@ -8,9 +8,9 @@ ghost use Rattle.device_machine.specs.Core.{Ending, Addressing, state_of, after_
 ghost use Rattle.dwc2_regs.specs.declared.access.TheConstants.{FS4};
 ghost use Rattle.device_relation.specs.Relation.{IsSound, IsAddress};
 ghost use Rattle.device_relation.specs.Port.{port_of};
-ghost use Rattle.dwc2_device.specs.Driver.{joint, GoesOn};
+ghost use Rattle.dwc2_device.specs.Driver.{joint, Has, Spends};
 ghost use Rattle.usbd_core.specs.Device.{core_of, port_in, address_of, tops, Fits, Rests, Agrees};
-ghost use Rattle.usbd_core.specs.Task.{IsFree, IsFreeFor, with_endpoints};
+ghost use Rattle.usbd_core.specs.Task.{IsFree, IsFreeFor, Needs, Leaves, with_endpoints};
 
 use crate::DevStack;
 use crate::data::DataStage;
@@ -29,14 +29,11 @@ impl<R: Regs + Drop> DevStack<R> {
     /// One task run, of at most 40 accesses: it works the stage that finished, and then the SETUP.
     pub fn task(&mut self)
         requires agrees { Agrees FS4 self.old }
-        requires spare { 400 ≤ self.old.port.bank.spare }
-        requires still { self.old.port.bank.due ≡ [] }
+        requires has { Has 400 self.old.port.bank }
         ensures core { core_of self.new ≡ after_task self.old.set (core_of self.old) }
         ensures agrees { Agrees FS4 self.new }
         ensures set { self.new.set ≡ self.old.set }
-        ensures spare { self.old.port.bank.spare ≤ self.new.port.bank.spare + 40 }
-        ensures still { self.new.port.bank.due ≡ [] }
-        ensures goes { GoesOn self.old.port.bank self.new.port.bank }
+        ensures spends { Spends 40 self.old.port.bank self.new.port.bank }
     {
         self.work_stage();
         self.work_request();
@@ -44,20 +41,12 @@ impl<R: Regs + Drop> DevStack<R> {
 
     /// Goes on after the stage that finished, where one did.
     fn work_stage(&mut self)
-        requires sound { IsSound FS4 (joint self.old.port) }
-        requires fits { Fits FS4 self.old.set (port_in self.old) self.old.state self.old.transfer }
+        requires needs { Needs FS4 2 self.old }
         requires rests { Rests (port_in self.old) self.old.finished self.old.request }
-        requires spare { 2 ≤ self.old.port.bank.spare }
-        requires still { self.old.port.bank.due ≡ [] }
         ensures core { core_of self.new ≡ work_stage (core_of self.old) self.old.finished }
-        ensures set { self.new.set ≡ self.old.set }
         ensures finished { self.new.finished ≡ None }
-        ensures sound { IsSound FS4 (joint self.new.port) }
-        ensures fits { Fits FS4 self.new.set (port_in self.new) self.new.state self.new.transfer }
         ensures free { IsFreeFor self.new.request (port_in self.new) }
-        ensures spare { self.old.port.bank.spare ≤ self.new.port.bank.spare + 2 }
-        ensures still { self.new.port.bank.due ≡ [] }
-        ensures goes { GoesOn self.old.port.bank self.new.port.bank }
+        ensures leaves { Leaves FS4 2 self.old self.new }
     {
         match self.finished.take() {
             Some(Stage::Sent) => self.send(),
@@ -68,18 +57,13 @@ impl<R: Regs + Drop> DevStack<R> {
 
     /// Begins the transfer of the SETUP that was noted, where one was.
     fn work_request(&mut self)
-        requires sound { IsSound FS4 (joint self.old.port) }
-        requires fits { Fits FS4 self.old.set (port_in self.old) self.old.state self.old.transfer }
+        requires needs { Needs FS4 38 self.old }
         requires finished { self.old.finished ≡ None }
         requires free { IsFreeFor self.old.request (port_in self.old) }
-        requires spare { 38 ≤ self.old.port.bank.spare }
-        requires still { self.old.port.bank.due ≡ [] }
         ensures core { core_of self.new ≡ with_request_worked self.old.set (core_of self.old) }
         ensures set { self.new.set ≡ self.old.set }
         ensures agrees { Agrees FS4 self.new }
-        ensures spare { self.old.port.bank.spare ≤ self.new.port.bank.spare + 38 }
-        ensures still { self.new.port.bank.due ≡ [] }
-        ensures goes { GoesOn self.old.port.bank self.new.port.bank }
+        ensures spends { Spends 38 self.old.port.bank self.new.port.bank }
     {
         match self.request.take() {
             Some(bytes) => self.begin(&setup_of(&bytes)),
@@ -90,20 +74,12 @@ impl<R: Regs + Drop> DevStack<R> {
     /// Hands over the next packet of a data stage for the host. Where none is left, or no data stage runs, the transfer
     /// is over.
     fn send(&mut self)
-        requires sound { IsSound FS4 (joint self.old.port) }
-        requires fits { Fits FS4 self.old.set (port_in self.old) self.old.state self.old.transfer }
+        requires needs { Needs FS4 2 self.old }
         requires free { IsFree (port_in self.old) }
-        requires spare { 2 ≤ self.old.port.bank.spare }
-        requires still { self.old.port.bank.due ≡ [] }
         ensures core { core_of self.new ≡ advanced (core_of self.old) self.old.transfer Sent }
-        ensures set { self.new.set ≡ self.old.set }
         ensures finished { self.new.finished ≡ self.old.finished }
-        ensures sound { IsSound FS4 (joint self.new.port) }
-        ensures fits { Fits FS4 self.new.set (port_in self.new) self.new.state self.new.transfer }
         ensures free { IsFree (port_in self.new) }
-        ensures spare { self.old.port.bank.spare ≤ self.new.port.bank.spare + 2 }
-        ensures still { self.new.port.bank.due ≡ [] }
-        ensures goes { GoesOn self.old.port.bank self.new.port.bank }
+        ensures leaves { Leaves FS4 2 self.old self.new }
     {
         match &mut self.transfer {
             Transfer::Data(stage) => match stage.take_packet() {
@@ -119,18 +95,10 @@ impl<R: Regs + Drop> DevStack<R> {
 
     /// Begins the transfer of a request.
     fn begin(&mut self, setup: &Setup)
-        requires sound { IsSound FS4 (joint self.old.port) }
-        requires fits { Fits FS4 self.old.set (port_in self.old) self.old.state self.old.transfer }
+        requires needs { Needs FS4 38 self.old }
         requires free { IsFree (port_in self.old) }
-        requires spare { 38 ≤ self.old.port.bank.spare }
-        requires still { self.old.port.bank.due ≡ [] }
         ensures core { core_of self.new ≡ begun self.old.set (core_of self.old) (choice self.old.set (state_of (core_of self.old)) setup.now) setup.now.length }
-        ensures set { self.new.set ≡ self.old.set }
-        ensures sound { IsSound FS4 (joint self.new.port) }
-        ensures fits { Fits FS4 self.new.set (port_in self.new) self.new.state self.new.transfer }
-        ensures spare { self.old.port.bank.spare ≤ self.new.port.bank.spare + 38 }
-        ensures still { self.new.port.bank.due ≡ [] }
-        ensures goes { GoesOn self.old.port.bank self.new.port.bank }
+        ensures leaves { Leaves FS4 38 self.old self.new }
     {
         match decide(&self.set, &self.state, setup) {
             Choice::Own(decision, effect) => {
@@ -144,19 +112,11 @@ impl<R: Regs + Drop> DevStack<R> {
     /// The first stage of a request.
     #[inline(always)]
     fn stage(&mut self, decision: Decision, effect: Effect, allowed: u16)
-        requires sound { IsSound FS4 (joint self.old.port) }
-        requires fits { Fits FS4 self.old.set (port_in self.old) self.old.state self.old.transfer }
+        requires needs { Needs FS4 2 self.old }
         requires free { IsFree (port_in self.old) }
         requires address { IsAddress (address_of (ending effect)) }
-        requires spare { 2 ≤ self.old.port.bank.spare }
-        requires still { self.old.port.bank.due ≡ [] }
         ensures core { core_of self.new ≡ staged (core_of self.old) decision effect allowed }
-        ensures set { self.new.set ≡ self.old.set }
-        ensures sound { IsSound FS4 (joint self.new.port) }
-        ensures fits { Fits FS4 self.new.set (port_in self.new) self.new.state self.new.transfer }
-        ensures spare { self.old.port.bank.spare ≤ self.new.port.bank.spare + 2 }
-        ensures still { self.new.port.bank.due ≡ [] }
-        ensures goes { GoesOn self.old.port.bank self.new.port.bank }
+        ensures leaves { Leaves FS4 2 self.old self.new }
     {
         match decision {
             Decision::Data(bytes) => self.give(bytes, allowed),
@@ -167,19 +127,11 @@ impl<R: Regs + Drop> DevStack<R> {
 
     /// The status stage of a request without data.
     fn acknowledge(&mut self, effect: Effect)
-        requires sound { IsSound FS4 (joint self.old.port) }
-        requires fits { Fits FS4 self.old.set (port_in self.old) self.old.state self.old.transfer }
+        requires needs { Needs FS4 2 self.old }
         requires free { IsFree (port_in self.old) }
         requires address { IsAddress (address_of (ending effect)) }
-        requires spare { 2 ≤ self.old.port.bank.spare }
-        requires still { self.old.port.bank.due ≡ [] }
         ensures core { core_of self.new ≡ with_side (core_of self.old) (Wait [] false) (ending effect) }
-        ensures set { self.new.set ≡ self.old.set }
-        ensures sound { IsSound FS4 (joint self.new.port) }
-        ensures fits { Fits FS4 self.new.set (port_in self.new) self.new.state self.new.transfer }
-        ensures spare { self.old.port.bank.spare ≤ self.new.port.bank.spare + 2 }
-        ensures still { self.new.port.bank.due ≡ [] }
-        ensures goes { GoesOn self.old.port.bank self.new.port.bank }
+        ensures leaves { Leaves FS4 2 self.old self.new }
     {
         match effect {
             Effect::Address(address) => self.give_address(address),
@@ -189,19 +141,11 @@ impl<R: Regs + Drop> DevStack<R> {
 
     /// The status stage for the host of SET_ADDRESS, with the address that it brings (USB 2.0, 9.4.6).
     fn give_address(&mut self, address: u8)
-        requires sound { IsSound FS4 (joint self.old.port) }
-        requires fits { Fits FS4 self.old.set (port_in self.old) self.old.state self.old.transfer }
+        requires needs { Needs FS4 2 self.old }
         requires free { IsFree (port_in self.old) }
         requires address { address < 128 }
-        requires spare { 2 ≤ self.old.port.bank.spare }
-        requires still { self.old.port.bank.due ≡ [] }
         ensures core { core_of self.new ≡ with_side (core_of self.old) (Wait [] false) (Addressing address) }
-        ensures set { self.new.set ≡ self.old.set }
-        ensures sound { IsSound FS4 (joint self.new.port) }
-        ensures fits { Fits FS4 self.new.set (port_in self.new) self.new.state self.new.transfer }
-        ensures spare { self.old.port.bank.spare ≤ self.new.port.bank.spare + 2 }
-        ensures still { self.new.port.bank.due ≡ [] }
-        ensures goes { GoesOn self.old.port.bank self.new.port.bank }
+        ensures leaves { Leaves FS4 2 self.old self.new }
     {
         self.port.start_ep0(&Packet::empty(), false);
         self.port.set_address(address);
@@ -210,18 +154,10 @@ impl<R: Regs + Drop> DevStack<R> {
 
     /// The status stage for the host of another request (USB 2.0, 8.5.3).
     fn give_status(&mut self)
-        requires sound { IsSound FS4 (joint self.old.port) }
-        requires fits { Fits FS4 self.old.set (port_in self.old) self.old.state self.old.transfer }
+        requires needs { Needs FS4 2 self.old }
         requires free { IsFree (port_in self.old) }
-        requires spare { 2 ≤ self.old.port.bank.spare }
-        requires still { self.old.port.bank.due ≡ [] }
         ensures core { core_of self.new ≡ with_side (core_of self.old) (Wait [] false) Ending }
-        ensures set { self.new.set ≡ self.old.set }
-        ensures sound { IsSound FS4 (joint self.new.port) }
-        ensures fits { Fits FS4 self.new.set (port_in self.new) self.new.state self.new.transfer }
-        ensures spare { self.old.port.bank.spare ≤ self.new.port.bank.spare + 2 }
-        ensures still { self.new.port.bank.due ≡ [] }
-        ensures goes { GoesOn self.old.port.bank self.new.port.bank }
+        ensures leaves { Leaves FS4 2 self.old self.new }
     {
         self.port.start_ep0(&Packet::empty(), false);
         self.transfer = Transfer::Status;
@@ -230,18 +166,10 @@ impl<R: Regs + Drop> DevStack<R> {
     /// The first stage of a request with data for the host, of which it allows so many bytes.
     #[inline(always)]
     fn give(&mut self, bytes: ArrayVec<u8, 512>, allowed: u16)
-        requires sound { IsSound FS4 (joint self.old.port) }
-        requires fits { Fits FS4 self.old.set (port_in self.old) self.old.state self.old.transfer }
+        requires needs { Needs FS4 2 self.old }
         requires free { IsFree (port_in self.old) }
-        requires spare { 2 ≤ self.old.port.bank.spare }
-        requires still { self.old.port.bank.due ≡ [] }
         ensures core { core_of self.new ≡ with_data (core_of self.old) bytes.items allowed }
-        ensures set { self.new.set ≡ self.old.set }
-        ensures sound { IsSound FS4 (joint self.new.port) }
-        ensures fits { Fits FS4 self.new.set (port_in self.new) self.new.state self.new.transfer }
-        ensures spare { self.old.port.bank.spare ≤ self.new.port.bank.spare + 2 }
-        ensures still { self.new.port.bank.due ≡ [] }
-        ensures goes { GoesOn self.old.port.bank self.new.port.bank }
+        ensures leaves { Leaves FS4 2 self.old self.new }
     {
         if allowed == 0 {
             self.give_status();
@@ -253,18 +181,10 @@ impl<R: Regs + Drop> DevStack<R> {
 
     /// Refuses a request.
     fn refuse(&mut self)
-        requires sound { IsSound FS4 (joint self.old.port) }
-        requires fits { Fits FS4 self.old.set (port_in self.old) self.old.state self.old.transfer }
+        requires needs { Needs FS4 2 self.old }
         requires free { IsFree (port_in self.old) }
-        requires spare { 2 ≤ self.old.port.bank.spare }
-        requires still { self.old.port.bank.due ≡ [] }
         ensures core { core_of self.new ≡ refused (core_of self.old) }
-        ensures set { self.new.set ≡ self.old.set }
-        ensures sound { IsSound FS4 (joint self.new.port) }
-        ensures fits { Fits FS4 self.new.set (port_in self.new) self.new.state self.new.transfer }
-        ensures spare { self.old.port.bank.spare ≤ self.new.port.bank.spare + 2 }
-        ensures still { self.new.port.bank.due ≡ [] }
-        ensures goes { GoesOn self.old.port.bank self.new.port.bank }
+        ensures leaves { Leaves FS4 2 self.old self.new }
     {
         self.port.stall_ep0();
         self.transfer = Transfer::Idle;
@@ -272,17 +192,9 @@ impl<R: Regs + Drop> DevStack<R> {
 
     /// What a request changes in this task: all but the address.
     fn change(&mut self, effect: Effect)
-        requires sound { IsSound FS4 (joint self.old.port) }
-        requires fits { Fits FS4 self.old.set (port_in self.old) self.old.state self.old.transfer }
-        requires spare { 36 ≤ self.old.port.bank.spare }
-        requires still { self.old.port.bank.due ≡ [] }
+        requires needs { Needs FS4 36 self.old }
         ensures core { core_of self.new ≡ changed self.old.set (core_of self.old) effect }
-        ensures set { self.new.set ≡ self.old.set }
-        ensures sound { IsSound FS4 (joint self.new.port) }
-        ensures fits { Fits FS4 self.new.set (port_in self.new) self.new.state self.new.transfer }
-        ensures spare { self.old.port.bank.spare ≤ self.new.port.bank.spare + 36 }
-        ensures still { self.new.port.bank.due ≡ [] }
-        ensures goes { GoesOn self.old.port.bank self.new.port.bank }
+        ensures leaves { Leaves FS4 36 self.old self.new }
     {
         match effect {
             Effect::None | Effect::Address(_) => {}
@@ -307,17 +219,9 @@ impl<R: Regs + Drop> DevStack<R> {
 
     /// Ends the session, and begins a new one where it is told so (USB 2.0, 9.4.7).
     fn configure(&mut self, begins: bool)
-        requires sound { IsSound FS4 (joint self.old.port) }
-        requires fits { Fits FS4 self.old.set (port_in self.old) self.old.state self.old.transfer }
-        requires spare { 36 ≤ self.old.port.bank.spare }
-        requires still { self.old.port.bank.due ≡ [] }
+        requires needs { Needs FS4 36 self.old }
         ensures core { core_of self.new ≡ configured self.old.set (core_of self.old) begins }
-        ensures set { self.new.set ≡ self.old.set }
-        ensures sound { IsSound FS4 (joint self.new.port) }
-        ensures fits { Fits FS4 self.new.set (port_in self.new) self.new.state self.new.transfer }
-        ensures spare { self.old.port.bank.spare ≤ self.new.port.bank.spare + 36 }
-        ensures still { self.new.port.bank.due ≡ [] }
-        ensures goes { GoesOn self.old.port.bank self.new.port.bank }
+        ensures leaves { Leaves FS4 36 self.old self.new }
     {
         renew(&mut self.port, self.set.endpoints(), begins);
         self.state.configured = begins;
@@ -329,13 +233,10 @@ impl<R: Regs + Drop> DevStack<R> {
 fn renew<R: Regs + Drop>(port: &mut DevPort<R>, endpoints: &[Endpoint], begins: bool)
     requires sound { IsSound FS4 (joint port.old) }
     requires served { AreServed (tops FS4) endpoints.now }
-    requires spare { 36 ≤ port.old.bank.spare }
-    requires still { port.old.bank.due ≡ [] }
+    requires has { Has 36 port.old.bank }
     ensures port { port_of (joint port.new) ≡ with_endpoints (port_of (joint port.old)) (if begins then endpoints.now else []) }
     ensures sound { IsSound FS4 (joint port.new) }
-    ensures spare { port.old.bank.spare ≤ port.new.bank.spare + 36 }
-    ensures still { port.new.bank.due ≡ [] }
-    ensures goes { GoesOn port.old.bank port.new.bank }
+    ensures spends { Spends 36 port.old.bank port.new.bank }
 {
     port.close_all();
     if begins {
@@ -348,13 +249,10 @@ fn open_all<R: Regs + Drop>(port: &mut DevPort<R>, endpoints: &[Endpoint])
     requires sound { IsSound FS4 (joint port.old) }
     requires shut { port.old.software.open_ones ≡ [] }
     requires served { AreServed (tops FS4) endpoints.now }
-    requires spare { 30 ≤ port.old.bank.spare }
-    requires still { port.old.bank.due ≡ [] }
+    requires has { Has 30 port.old.bank }
     ensures port { port_of (joint port.new) ≡ with_endpoints (port_of (joint port.old)) endpoints.now }
     ensures sound { IsSound FS4 (joint port.new) }
-    ensures spare { port.old.bank.spare ≤ port.new.bank.spare + 30 }
-    ensures still { port.new.bank.due ≡ [] }
-    ensures goes { GoesOn port.old.bank port.new.bank }
+    ensures spends { Spends 30 port.old.bank port.new.bank }
 {
     for endpoint in endpoints {
         port.open_ep(endpoint);

@@ -25,4 +25,4 @@ returns-in-Some-clause-core g c =
 
 pub returns-in-Some-clause-agrees : goal.returns-in-Some-clause-agrees
 returns-in-Some-clause-agrees g c =
-    worked_agrees c.args.self.now c.begin.new.self c.requires.finished (returns-in-Some-clause-core g c) c.begin.ensures.sound c.begin.ensures.fits
+    worked_agrees c.args.self.now c.begin.new.self c.requires.finished (returns-in-Some-clause-core g c) c.begin.ensures.leaves.0.0 c.begin.ensures.leaves.0.1
