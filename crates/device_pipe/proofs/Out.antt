@@ -110,7 +110,7 @@ does : (given : List (List ℕ)) (link : OutLink) (phase : OutPhase) (halted : B
     IsTakenOnce given link → IsTakenOnce given (record link { pipe = record link.pipe { phase = phase; halted = halted; held = held }; read = read; learned = learned })
 does given link phase halted held read learned eb en i = record { all = i.all; bytes = eb ∙ i.bytes; number = en ∙ i.number; doubt = i.doubt }
 
-landed_irq : (phase : OutPhase) → landed (phase_after_irq phase) ≡ []
+pub landed_irq : (phase : OutPhase) → landed (phase_after_irq phase) ≡ []
 landed_irq (Closed over) = refl
 landed_irq Rest = refl
 landed_irq Armed = refl

@@ -1,5 +1,5 @@
 -- What the laws on pipes speak of: USB 2.0, 5.8.3, 8.4.5, 8.6 and 9.4.5.
-use Rattle.std.specs.Prelude.{◌≡◌, ◌≤◌, ℕ, ◌+◌, ◌++◌, List, [], ◌∷◌, Bool, true, false, ◌&&◌, length, take, drop, if◌then◌else◌, ⊤}
+use Rattle.std.specs.Prelude.{◌≡◌, ◌≤◌, ℕ, zero, suc, ◌+◌, ◌++◌, List, [], ◌∷◌, Bool, true, false, ◌&&◌, length, take, drop, if◌then◌else◌, ⊤}
 use Rattle.std.specs.List.{concat}
 use Rattle.usb_packet.specs.declared.bus.BusAnswer.{BusAnswer}
 use Rattle.usb_packet.specs.declared.bus.BusAnswer.TheVariants as answers
@@ -177,6 +177,20 @@ ArmsNothing (out.Packet toggle bytes) = ⊤
 ArmsNothing out.Clears = ⊤
 ArmsNothing out.Drops = ⊤
 
+-- the class doesn't arm, and the endpoint isn't halted
+abbrev pub IsNoArmingOrHalt : OutDeed → Type 0
+IsNoArmingOrHalt out.Irq = ⊤
+IsNoArmingOrHalt out.Task = ⊤
+IsNoArmingOrHalt out.Arms = ⊥
+IsNoArmingOrHalt (out.Reads n) = ⊤
+IsNoArmingOrHalt out.Halts = ⊥
+
+abbrev pub ArmsAndHaltsNothing : OutEvent → Type 0
+ArmsAndHaltsNothing (out.Does deed) = IsNoArmingOrHalt deed
+ArmsAndHaltsNothing (out.Packet toggle bytes) = ⊤
+ArmsAndHaltsNothing out.Clears = ⊤
+ArmsAndHaltsNothing out.Drops = ⊤
+
 -- no handler run
 abbrev pub IsNoIrq : OutDeed → Type 0
 IsNoIrq out.Irq = ⊥
@@ -214,3 +228,8 @@ is_data answers.Ack = false
 is_data answers.Nak = false
 is_data answers.Stall = false
 is_data answers.NoAnswer = false
+
+-- handler runs, and between them two tokens whose packets are acknowledged
+abbrev pub rounds : ℕ → List InEvent
+rounds zero = inward.Does inward.Irq ∷ []
+rounds (suc k) = inward.Does inward.Irq ∷ inward.Token true ∷ inward.Token true ∷ rounds k

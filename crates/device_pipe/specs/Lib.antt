@@ -5,3 +5,5 @@ pub mod Link
 pub mod OutLink
 pub mod InLink
 pub mod Laws
+pub mod OutExamples
+pub mod InExamples

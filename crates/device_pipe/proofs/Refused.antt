@@ -1,0 +1,349 @@
+-- What a pipe refuses, and what it drops.
+use Rattle.std.proofs.Common.{◌≡◌, ℕ, List, [], ◌∷◌, Bool, true, false, ◌&&◌, if◌then◌else◌, refl, sym, ap, ◌∙◌, true≢false, All, subst}
+use Rattle.std.proofs.lemmas.List.Elements.{All-head, All-tail}
+use Rattle.usb_packet.specs.declared.bus.Toggle.{Toggle}
+use Rattle.usb_packet.specs.declared.bus.Toggle.TheVariants.{D0, D1}
+use Rattle.usb_packet.specs.declared.bus.BusAnswer.{BusAnswer}
+use Rattle.usb_packet.specs.declared.bus.BusAnswer.TheVariants as answers
+use Rattle.device_pipe.specs.Toggles.{flipped, same_toggle}
+use Rattle.device_pipe.specs.OutPipe.{OutPipe, OutPhase, Closed, Rest, Armed, Landed, Posted, Stale, OutDeed, Irq, Task, Arms, Reads, Halts, OutEvent, Packet, Does, Clears, Drops, out_answer, answer_at, is_ack, after_packet, phase_after_irq, phase_after_task, phase_armed, after_deed, after_deeds, after_event, after_events, opened, leaves_packet}
+use Rattle.device_pipe.specs.InPipe as inward
+use Rattle.device_pipe.specs.InPipe.{InPipe, InPhase, InDeed, InEvent, in_answer, after_answer, after_token}
+use Rattle.device_pipe.specs.Laws.{IsOutOpen, IsInOpen, ClearsNoOut, ClearsNoIn, ArmsNothing, IsNoArming, ArmsAndHaltsNothing, IsNoArmingOrHalt, RunsNoHandler, IsNoIrq, is_data}
+
+and_false : (b : Bool) → (b && false) ≡ false
+and_false true = refl
+and_false false = refl
+
+same_itself : (t : Toggle) → same_toggle t t ≡ true
+same_itself D0 = refl
+same_itself D1 = refl
+
+same_flipped : (t : Toggle) → same_toggle t (flipped t) ≡ false
+same_flipped D0 = refl
+same_flipped D1 = refl
+
+-- a packet that isn't acknowledged changes nothing
+pub unacknowledged : (pipe : OutPipe) (toggle : Toggle) (packet : List ℕ) → is_ack (out_answer pipe) ≡ false → after_packet pipe toggle packet ≡ pipe
+unacknowledged pipe toggle packet e =
+    ap (λ b. if b && same_toggle toggle pipe.toggle then record pipe { phase = Landed packet; toggle = flipped pipe.toggle } else pipe) e
+
+-- nor does one of the other toggle
+pub other_toggle : (pipe : OutPipe) (toggle : Toggle) (packet : List ℕ) → same_toggle toggle pipe.toggle ≡ false → after_packet pipe toggle packet ≡ pipe
+other_toggle pipe toggle packet e =
+    ap (λ b. if is_ack (out_answer pipe) && b then record pipe { phase = Landed packet; toggle = flipped pipe.toggle } else pipe) e ∙
+    ap (λ b. if b then record pipe { phase = Landed packet; toggle = flipped pipe.toggle } else pipe) (and_false (is_ack (out_answer pipe)))
+
+-- one that is acknowledged with the pipe's toggle lands
+pub lands : (pipe : OutPipe) (packet : List ℕ) → out_answer pipe ≡ answers.Ack → after_packet pipe pipe.toggle packet ≡ record pipe { phase = Landed packet; toggle = flipped pipe.toggle }
+lands pipe packet e =
+    ap (λ a. if is_ack a && same_toggle pipe.toggle pipe.toggle then record pipe { phase = Landed packet; toggle = flipped pipe.toggle } else pipe) e ∙
+    ap (λ b. if b then record pipe { phase = Landed packet; toggle = flipped pipe.toggle } else pipe) (same_itself pipe.toggle)
+
+-- the device's deeds leave the toggle
+deed_toggle : (pipe : OutPipe) (d : OutDeed) → (after_deed pipe d).toggle ≡ pipe.toggle
+deed_toggle pipe Irq = refl
+deed_toggle pipe Task = refl
+deed_toggle pipe Arms = refl
+deed_toggle pipe (Reads n) = refl
+deed_toggle pipe Halts = refl
+
+deeds_toggle : (pipe : OutPipe) (deeds : List OutDeed) → (after_deeds pipe deeds).toggle ≡ pipe.toggle
+deeds_toggle pipe [] = refl
+deeds_toggle pipe (d ∷ deeds) = deeds_toggle (after_deed pipe d) deeds ∙ deed_toggle pipe d
+
+pub held_once : (pipe : OutPipe) (packet : List ℕ) (deeds : List OutDeed) (again : List ℕ) → out_answer pipe ≡ answers.Ack →
+    after_packet (after_deeds (after_packet pipe pipe.toggle packet) deeds) pipe.toggle again ≡ after_deeds (after_packet pipe pipe.toggle packet) deeds
+held_once pipe packet deeds again e =
+    let first = after_packet pipe pipe.toggle packet in
+    let toggle : first.toggle ≡ flipped pipe.toggle = ap (λ (q : OutPipe). q.toggle) (lands pipe packet e) in
+    other_toggle (after_deeds first deeds) pipe.toggle again (ap (λ t. same_toggle pipe.toggle t) (deeds_toggle first deeds ∙ toggle) ∙ same_flipped pipe.toggle)
+
+pub acknowledges : (pipe : OutPipe) → pipe.phase ≡ Armed → pipe.halted ≡ false → out_answer pipe ≡ answers.Ack
+acknowledges pipe ep eh = ap (λ p. answer_at p pipe.halted) ep ∙ ap (λ h. answer_at Armed h) eh
+
+-- a token that gets no data changes nothing
+quiet_answer : (pipe : InPipe) (answer : BusAnswer) → is_data answer ≡ false → after_answer pipe answer ≡ pipe
+quiet_answer pipe (answers.Data toggle packet) e = elim (true≢false e) [ ]
+quiet_answer pipe answers.Done e = refl
+quiet_answer pipe answers.Ack e = refl
+quiet_answer pipe answers.Nak e = refl
+quiet_answer pipe answers.Stall e = refl
+quiet_answer pipe answers.NoAnswer e = refl
+
+pub unanswered : (pipe : InPipe) (ok : Bool) → is_data (in_answer pipe) ≡ false → after_token pipe ok ≡ pipe
+unanswered pipe true e = quiet_answer pipe (in_answer pipe) e
+unanswered pipe false e = refl
+
+pub unheard : (pipe : InPipe) → after_token pipe false ≡ pipe
+unheard pipe = refl
+
+-- a halted OUT pipe
+stalls : (phase : OutPhase) (halted : Bool) → halted ≡ true → IsOutOpen phase → answer_at phase halted ≡ answers.Stall
+stalls (Closed over) halted e o = elim o [ ]
+stalls Rest halted e o = ap (λ h. answer_at Rest h) e
+stalls Armed halted e o = ap (λ h. answer_at Armed h) e
+stalls (Landed packet) halted e o = ap (λ h. answer_at (Landed packet) h) e
+stalls Posted halted e o = ap (λ h. answer_at Posted h) e
+stalls Stale halted e o = ap (λ h. answer_at Stale h) e
+
+irq_open : (phase : OutPhase) → IsOutOpen phase → IsOutOpen (phase_after_irq phase)
+irq_open (Closed over) o = o
+irq_open Rest o = o
+irq_open Armed o = o
+irq_open (Landed packet) o = o
+irq_open Posted o = o
+irq_open Stale o = o
+
+task_open : (phase : OutPhase) → IsOutOpen phase → IsOutOpen (phase_after_task phase)
+task_open (Closed over) o = o
+task_open Rest o = o
+task_open Armed o = o
+task_open (Landed packet) o = o
+task_open Posted o = o
+task_open Stale o = o
+
+armed_open : (phase : OutPhase) (halted : Bool) → IsOutOpen phase → IsOutOpen (phase_armed phase halted)
+armed_open (Closed over) halted o = o
+armed_open Rest true o = o
+armed_open Rest false o = o
+armed_open Armed halted o = o
+armed_open (Landed packet) halted o = o
+armed_open Posted halted o = o
+armed_open Stale halted o = o
+
+record IsStalled (pipe : OutPipe) : Type 0 where
+  is_halted : pipe.halted ≡ true
+  is_open : IsOutOpen pipe.phase
+
+stalled_deed : (pipe : OutPipe) (d : OutDeed) → IsStalled pipe → IsStalled (after_deed pipe d)
+stalled_deed pipe Irq i = record { is_halted = i.is_halted; is_open = irq_open pipe.phase i.is_open }
+stalled_deed pipe Task i = record { is_halted = i.is_halted; is_open = task_open pipe.phase i.is_open }
+stalled_deed pipe Arms i = record { is_halted = i.is_halted; is_open = armed_open pipe.phase pipe.halted i.is_open }
+stalled_deed pipe (Reads n) i = record { is_halted = i.is_halted; is_open = i.is_open }
+stalled_deed pipe Halts i = record { is_halted = refl; is_open = i.is_open }
+
+stalled_event : (pipe : OutPipe) (e : OutEvent) → ClearsNoOut e → IsStalled pipe → IsStalled (after_event pipe e)
+stalled_event pipe (Packet toggle bytes) c i =
+    subst IsStalled (sym (unacknowledged pipe toggle bytes (ap is_ack (stalls pipe.phase pipe.halted i.is_halted i.is_open)))) i
+stalled_event pipe (Does d) c i = stalled_deed pipe d i
+stalled_event pipe Clears c i = elim c [ ]
+stalled_event pipe Drops c i = record { is_halted = i.is_halted; is_open = i.is_open }
+
+stalled_run : (pipe : OutPipe) (events : List OutEvent) → All ClearsNoOut events → IsStalled pipe → out_answer (after_events pipe events) ≡ answers.Stall
+stalled_run pipe [] c i = stalls pipe.phase pipe.halted i.is_halted i.is_open
+stalled_run pipe (e ∷ events) c i =
+    stalled_run (after_event pipe e) events (All-tail ClearsNoOut e events c) (stalled_event pipe e (All-head ClearsNoOut e events c) i)
+
+pub out_stalls : (pipe : OutPipe) (events : List OutEvent) → pipe.halted ≡ true → IsOutOpen pipe.phase → All ClearsNoOut events → out_answer (after_events pipe events) ≡ answers.Stall
+out_stalls pipe events e o c = stalled_run pipe events c (record { is_halted = e; is_open = o })
+
+-- a halted IN pipe
+in_stall : (phase : InPhase) (halted : Bool) (other : BusAnswer) → halted ≡ true → IsInOpen phase →
+    (if inward.is_closed phase then answers.NoAnswer else (if halted then answers.Stall else other)) ≡ answers.Stall
+in_stall inward.Closed halted other e o = elim o [ ]
+in_stall inward.Rest halted other e o = ap (λ h. if h then answers.Stall else other) e
+in_stall (inward.Running n left) halted other e o = ap (λ h. if h then answers.Stall else other) e
+in_stall (inward.Posted n) halted other e o = ap (λ h. if h then answers.Stall else other) e
+
+in_stalls_at : (pipe : InPipe) → pipe.halted ≡ true → IsInOpen pipe.phase → in_answer pipe ≡ answers.Stall
+in_stalls_at pipe e o = in_stall pipe.phase pipe.halted (inward.sent pipe.toggle (inward.next_packet pipe.phase pipe.loaded)) e o
+
+record IsInStalled (pipe : InPipe) : Type 0 where
+  is_halted : pipe.halted ≡ true
+  is_open : IsInOpen pipe.phase
+
+served_open : (pipe : InPipe) (phase : InPhase) → pipe.halted ≡ true → IsInOpen pipe.phase → IsInOpen phase → IsInStalled (inward.served pipe phase)
+served_open pipe inward.Closed e o p = elim p [ ]
+served_open pipe inward.Rest e o p = record { is_halted = e; is_open = o }
+served_open pipe (inward.Running n []) e o p = record { is_halted = e; is_open = p }
+served_open pipe (inward.Running n (x ∷ left)) e o p = record { is_halted = e; is_open = o }
+served_open pipe (inward.Posted n) e o p = record { is_halted = e; is_open = o }
+
+in_task_open : (phase : InPhase) → IsInOpen phase → IsInOpen (inward.phase_after_task phase)
+in_task_open inward.Closed o = o
+in_task_open inward.Rest o = o
+in_task_open (inward.Running n left) o = o
+in_task_open (inward.Posted n) o = o
+
+in_started_open : (size : ℕ) (queue : List ℕ) (phase : InPhase) → IsInOpen phase → IsInOpen (inward.phase_started size queue phase)
+in_started_open size queue inward.Closed o = o
+in_started_open size queue inward.Rest o = o
+in_started_open size queue (inward.Running n left) o = o
+in_started_open size queue (inward.Posted n) o = o
+
+in_rest_open : (phase : InPhase) → IsInOpen phase → IsInOpen (inward.at_rest phase)
+in_rest_open inward.Closed o = o
+in_rest_open inward.Rest o = o
+in_rest_open (inward.Running n left) o = o
+in_rest_open (inward.Posted n) o = o
+
+in_stalled_deed : (size capacity : ℕ) (pipe : InPipe) (d : InDeed) → IsInStalled pipe → IsInStalled (inward.after_deed size capacity pipe d)
+in_stalled_deed size capacity pipe inward.Irq i = served_open pipe pipe.phase i.is_halted i.is_open i.is_open
+in_stalled_deed size capacity pipe inward.Task i = record { is_halted = i.is_halted; is_open = in_task_open pipe.phase i.is_open }
+in_stalled_deed size capacity pipe inward.Starts i = record { is_halted = i.is_halted; is_open = in_started_open size pipe.queue pipe.phase i.is_open }
+in_stalled_deed size capacity pipe (inward.Writes bytes) i = record { is_halted = i.is_halted; is_open = i.is_open }
+in_stalled_deed size capacity pipe inward.Halts i = record { is_halted = refl; is_open = i.is_open }
+
+in_stalled_event : (size capacity : ℕ) (pipe : InPipe) (e : InEvent) → ClearsNoIn e → IsInStalled pipe → IsInStalled (inward.after_event size capacity pipe e)
+in_stalled_event size capacity pipe (inward.Token ok) c i =
+    subst IsInStalled (sym (unanswered pipe ok (ap is_data (in_stalls_at pipe i.is_halted i.is_open)))) i
+in_stalled_event size capacity pipe (inward.Does d) c i = in_stalled_deed size capacity pipe d i
+in_stalled_event size capacity pipe inward.Clears c i = elim c [ ]
+in_stalled_event size capacity pipe inward.Drops c i = record { is_halted = i.is_halted; is_open = in_rest_open pipe.phase i.is_open }
+
+in_stalled_run : (size capacity : ℕ) (pipe : InPipe) (events : List InEvent) → All ClearsNoIn events → IsInStalled pipe →
+    in_answer (inward.after_events size capacity pipe events) ≡ answers.Stall
+in_stalled_run size capacity pipe [] c i = in_stalls_at pipe i.is_halted i.is_open
+in_stalled_run size capacity pipe (e ∷ events) c i =
+    in_stalled_run size capacity (inward.after_event size capacity pipe e) events (All-tail ClearsNoIn e events c)
+    (in_stalled_event size capacity pipe e (All-head ClearsNoIn e events c) i)
+
+pub in_stalls : (size : ℕ) (capacity : ℕ) (pipe : InPipe) (events : List InEvent) → pipe.halted ≡ true → IsInOpen pipe.phase → All ClearsNoIn events →
+    in_answer (inward.after_events size capacity pipe events) ≡ answers.Stall
+in_stalls size capacity pipe events e o c = in_stalled_run size capacity pipe events c (record { is_halted = e; is_open = o })
+
+-- a pipe that isn't armed
+abbrev IsIdle : OutPhase → Type 0
+IsIdle Armed = ⊥
+IsIdle (Closed over) = Unit {0}
+IsIdle Rest = Unit {0}
+IsIdle (Landed packet) = Unit {0}
+IsIdle Posted = Unit {0}
+IsIdle Stale = Unit {0}
+
+idle_answer : (phase : OutPhase) (halted : Bool) → IsIdle phase → is_ack (answer_at phase halted) ≡ false
+idle_answer (Closed over) halted i = refl
+idle_answer Rest true i = refl
+idle_answer Rest false i = refl
+idle_answer Armed halted i = elim i [ ]
+idle_answer (Landed packet) true i = refl
+idle_answer (Landed packet) false i = refl
+idle_answer Posted true i = refl
+idle_answer Posted false i = refl
+idle_answer Stale true i = refl
+idle_answer Stale false i = refl
+
+idle_irq : (phase : OutPhase) → IsIdle phase → IsIdle (phase_after_irq phase)
+idle_irq (Closed over) i = tt
+idle_irq Rest i = tt
+idle_irq Armed i = elim i [ ]
+idle_irq (Landed packet) i = tt
+idle_irq Posted i = tt
+idle_irq Stale i = tt
+
+idle_task : (phase : OutPhase) → IsIdle phase → IsIdle (phase_after_task phase)
+idle_task (Closed over) i = tt
+idle_task Rest i = tt
+idle_task Armed i = elim i [ ]
+idle_task (Landed packet) i = tt
+idle_task Posted i = tt
+idle_task Stale i = tt
+
+idle_deed : (pipe : OutPipe) (d : OutDeed) → IsNoArming d → IsIdle pipe.phase → IsIdle (after_deed pipe d).phase
+idle_deed pipe Irq n i = idle_irq pipe.phase i
+idle_deed pipe Task n i = idle_task pipe.phase i
+idle_deed pipe Arms n i = elim n [ ]
+idle_deed pipe (Reads k) n i = i
+idle_deed pipe Halts n i = i
+
+idle_event : (pipe : OutPipe) (e : OutEvent) → ArmsNothing e → IsIdle pipe.phase → IsIdle (after_event pipe e).phase
+idle_event pipe (Packet toggle bytes) n i =
+    subst (λ (q : OutPipe). IsIdle q.phase) (sym (unacknowledged pipe toggle bytes (idle_answer pipe.phase pipe.halted i))) i
+idle_event pipe (Does d) n i = idle_deed pipe d n i
+idle_event pipe Clears n i = i
+idle_event pipe Drops n i = i
+
+idle_run : (pipe : OutPipe) (events : List OutEvent) → All ArmsNothing events → IsIdle pipe.phase → is_ack (out_answer (after_events pipe events)) ≡ false
+idle_run pipe [] n i = idle_answer pipe.phase pipe.halted i
+idle_run pipe (e ∷ events) n i =
+    idle_run (after_event pipe e) events (All-tail ArmsNothing e events n) (idle_event pipe e (All-head ArmsNothing e events n) i)
+
+-- after a packet that landed, none is acknowledged until a task arms the pipe
+pub none_taken : (pipe : OutPipe) (packet : List ℕ) (events : List OutEvent) → out_answer pipe ≡ answers.Ack → All ArmsNothing events →
+    is_ack (out_answer (after_events (after_packet pipe pipe.toggle packet) events)) ≡ false
+none_taken pipe packet events e n =
+    idle_run (after_packet pipe pipe.toggle packet) events n (subst (λ (q : OutPipe). IsIdle q.phase) (sym (lands pipe packet e)) tt)
+
+-- and where it isn't halted, each gets NAK
+record IsWaiting (pipe : OutPipe) : Type 0 where
+  unhalted : pipe.halted ≡ false
+  idle : IsIdle pipe.phase
+  is_open : IsOutOpen pipe.phase
+
+nak_at : (phase : OutPhase) (halted : Bool) → halted ≡ false → IsIdle phase → IsOutOpen phase → answer_at phase halted ≡ answers.Nak
+nak_at (Closed over) halted e i o = elim o [ ]
+nak_at Rest halted e i o = ap (λ h. answer_at Rest h) e
+nak_at Armed halted e i o = elim i [ ]
+nak_at (Landed packet) halted e i o = ap (λ h. answer_at (Landed packet) h) e
+nak_at Posted halted e i o = ap (λ h. answer_at Posted h) e
+nak_at Stale halted e i o = ap (λ h. answer_at Stale h) e
+
+waiting_deed : (pipe : OutPipe) (d : OutDeed) → IsNoArmingOrHalt d → IsWaiting pipe → IsWaiting (after_deed pipe d)
+waiting_deed pipe Irq n i = record { unhalted = i.unhalted; idle = idle_irq pipe.phase i.idle; is_open = irq_open pipe.phase i.is_open }
+waiting_deed pipe Task n i = record { unhalted = i.unhalted; idle = idle_task pipe.phase i.idle; is_open = task_open pipe.phase i.is_open }
+waiting_deed pipe Arms n i = elim n [ ]
+waiting_deed pipe (Reads k) n i = record { unhalted = i.unhalted; idle = i.idle; is_open = i.is_open }
+waiting_deed pipe Halts n i = elim n [ ]
+
+waiting_event : (pipe : OutPipe) (e : OutEvent) → ArmsAndHaltsNothing e → IsWaiting pipe → IsWaiting (after_event pipe e)
+waiting_event pipe (Packet toggle bytes) n i = subst IsWaiting (sym (unacknowledged pipe toggle bytes (idle_answer pipe.phase pipe.halted i.idle))) i
+waiting_event pipe (Does d) n i = waiting_deed pipe d n i
+waiting_event pipe Clears n i = record { unhalted = refl; idle = i.idle; is_open = i.is_open }
+waiting_event pipe Drops n i = record { unhalted = i.unhalted; idle = i.idle; is_open = i.is_open }
+
+waiting_run : (pipe : OutPipe) (events : List OutEvent) → All ArmsAndHaltsNothing events → IsWaiting pipe → out_answer (after_events pipe events) ≡ answers.Nak
+waiting_run pipe [] n i = nak_at pipe.phase pipe.halted i.unhalted i.idle i.is_open
+waiting_run pipe (e ∷ events) n i =
+    waiting_run (after_event pipe e) events (All-tail ArmsAndHaltsNothing e events n) (waiting_event pipe e (All-head ArmsAndHaltsNothing e events n) i)
+
+unhalted_at : (phase : OutPhase) (halted : Bool) → answer_at phase halted ≡ answers.Ack → halted ≡ false
+unhalted_at phase false e = refl
+unhalted_at (Closed over) true e = elim (true≢false (sym (ap is_ack e))) [ ]
+unhalted_at Rest true e = elim (true≢false (sym (ap is_ack e))) [ ]
+unhalted_at Armed true e = elim (true≢false (sym (ap is_ack e))) [ ]
+unhalted_at (Landed packet) true e = elim (true≢false (sym (ap is_ack e))) [ ]
+unhalted_at Posted true e = elim (true≢false (sym (ap is_ack e))) [ ]
+unhalted_at Stale true e = elim (true≢false (sym (ap is_ack e))) [ ]
+
+pub naks : (pipe : OutPipe) (packet : List ℕ) (events : List OutEvent) → out_answer pipe ≡ answers.Ack → All ArmsAndHaltsNothing events →
+    out_answer (after_events (after_packet pipe pipe.toggle packet) events) ≡ answers.Nak
+naks pipe packet events e n =
+    let at : IsWaiting (record pipe { phase = Landed packet; toggle = flipped pipe.toggle }) =
+    record { unhalted = unhalted_at pipe.phase pipe.halted e; idle = tt; is_open = tt } in
+    waiting_run (after_packet pipe pipe.toggle packet) events n (subst IsWaiting (sym (lands pipe packet e)) at)
+
+-- a pipe opened over a packet that was dropped
+stale_deed : (pipe : OutPipe) (d : OutDeed) → IsNoIrq d → pipe.phase ≡ Stale → (after_deed pipe d).phase ≡ Stale
+stale_deed pipe Irq n e = elim n [ ]
+stale_deed pipe Task n e = ap phase_after_task e
+stale_deed pipe Arms n e = ap (λ p. phase_armed p pipe.halted) e
+stale_deed pipe (Reads k) n e = e
+stale_deed pipe Halts n e = e
+
+stale_answer : (phase : OutPhase) (halted : Bool) → phase ≡ Stale → is_ack (answer_at phase halted) ≡ false
+stale_answer phase true e = ap (λ p. is_ack (answer_at p true)) e
+stale_answer phase false e = ap (λ p. is_ack (answer_at p false)) e
+
+stale_event : (pipe : OutPipe) (s : OutEvent) → RunsNoHandler s → pipe.phase ≡ Stale → (after_event pipe s).phase ≡ Stale
+stale_event pipe (Packet toggle bytes) n e = ap (λ (q : OutPipe). q.phase) (unacknowledged pipe toggle bytes (stale_answer pipe.phase pipe.halted e)) ∙ e
+stale_event pipe (Does d) n e = stale_deed pipe d n e
+stale_event pipe Clears n e = e
+stale_event pipe Drops n e = e
+
+stale_run : (pipe : OutPipe) (events : List OutEvent) → All RunsNoHandler events → pipe.phase ≡ Stale → is_ack (out_answer (after_events pipe events)) ≡ false
+stale_run pipe [] n e = stale_answer pipe.phase pipe.halted e
+stale_run pipe (s ∷ events) n e =
+    stale_run (after_event pipe s) events (All-tail RunsNoHandler s events n) (stale_event pipe s (All-head RunsNoHandler s events n) e)
+
+pub stale_refuses : (pipe : OutPipe) (events : List OutEvent) → leaves_packet pipe.phase ≡ true → All RunsNoHandler events →
+    is_ack (out_answer (after_events (opened pipe) events)) ≡ false
+stale_refuses pipe events e n = stale_run (opened pipe) events n (ap (λ b. if b then Stale else Rest) e)
+
+serves_if : (b : Bool) → out_answer (after_events (record { phase = if b then Stale else Rest; halted = false; toggle = D0; held = [] }) (Does Irq ∷ Does Arms ∷ [])) ≡ answers.Ack
+serves_if true = refl
+serves_if false = refl
+
+-- the handler run after it is opened ends that
+pub serves : (pipe : OutPipe) → out_answer (after_events (opened pipe) (Does Irq ∷ Does Arms ∷ [])) ≡ answers.Ack
+serves pipe = serves_if (leaves_packet pipe.phase)

@@ -1,0 +1,5 @@
+use Rattle.device_pipe.proofs.Refused.{acknowledges, other_toggle, held_once}
+use Rattle.device_pipe.proofs.laws.repeated_packet.Goals as goal
+
+pub returns : goal.returns
+returns c = record { acknowledged = acknowledges; dropped = other_toggle; once = held_once }
