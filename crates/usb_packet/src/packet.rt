@@ -40,6 +40,13 @@ impl Packet {
         }
     }
 
+    /// The packet of bytes that are at most 64 already.
+    pub fn of(items: ArrayVec<u8, 64>) -> Packet
+        ensures { result ≡ items.items }
+    {
+        Packet { items }
+    }
+
     /// The packet with no bytes, as in the status stage of a control transfer (USB 2.0, 8.5.3).
     pub fn empty() -> Packet
         ensures { result ≡ [] }

@@ -210,7 +210,7 @@ fn packet(word: &[u8]) -> Option<Packet>
     ensures { result ≡ bytes_in 64 word.now }
 {
     let bytes = read_hex::<64>(word)?;
-    Packet::new(bytes.as_slice()).ok()
+    Some(Packet::of(bytes))
 }
 
 /// Whether a packet was whole or acknowledged: `ok`, or the word for the other case.
