@@ -1,1 +1,3 @@
 mod Rows
+mod Cutting
+mod Kept

@@ -1,2 +1,4 @@
 pub mod Row
 pub mod Kinds
+pub mod Cut
+pub mod Left

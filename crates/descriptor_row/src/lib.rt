@@ -4,6 +4,7 @@
 
 mod descriptor;
 mod kinds;
+pub mod laws;
 mod left;
 mod row;
 
