@@ -7,6 +7,7 @@ ghost use Rattle.hid_items.specs.Lengths.{lengths_of, AreReportLengths};
 ghost use Rattle.hid_items.specs.Item.{IsOnlyCut, items_of};
 
 mod item;
+pub mod laws;
 mod pass;
 mod reports;
 mod state;
