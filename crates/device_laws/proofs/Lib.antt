@@ -4,3 +4,6 @@ pub mod Asks
 pub mod Steps
 pub mod Runs
 pub mod Seen
+pub mod Progress
+pub mod Delivery
+pub mod Delivered

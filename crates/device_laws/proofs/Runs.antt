@@ -28,7 +28,7 @@ use Rattle.device_laws.proofs.Facts.{Attends, Quiet, Runs, Waits, Underway, Smal
 use Rattle.device_laws.proofs.Asks.{address_of, Bounded, Asks, asks}
 use Rattle.device_laws.proofs.Steps.{put, in_facts, out_facts, setup_facts}
 
-no_address : (transfer : Transfer) → new_address transfer None ≡ None
+pub no_address : (transfer : Transfer) → new_address transfer None ≡ None
 no_address Idle = refl
 no_address (Sending packets) = refl
 no_address Ending = refl

@@ -148,7 +148,7 @@ last_append bytes [] = refl
 last_append bytes (x ∷ []) = refl
 last_append bytes (x ∷ y ∷ ys) = last_append bytes (y ∷ ys)
 
-same_stage : (side : Side) → finished_stage (disturbed side) ≡ finished_stage side
+pub same_stage : (side : Side) → finished_stage (disturbed side) ≡ finished_stage side
 same_stage Off = refl
 same_stage (Wait packet last) = refl
 same_stage (Loaded packet) = refl

@@ -12,6 +12,7 @@ use Rattle.usb_text.specs.declared.call.DevCall.TheVariants.{State}
 use Rattle.usb_text.specs.declared.line.Answer.{Answer}
 use Rattle.usb_text.specs.declared.line.Answer.TheVariants as answer
 use Rattle.device_schedule.specs.Schedule.{answers as schedule_answers}
+use Rattle.device_laws.specs.Reading.{IsRead}
 
 -- A device of one interface and no endpoint but 0, with power from the bus
 abbrev pub device : List ℕ
@@ -142,6 +143,10 @@ set_interface = 1 ∷ 0x0b ∷ 0 ∷ 0 ∷ 0 ∷ 0 ∷ 0 ∷ 0 ∷ []
 
 abbrev pub get_interface : List ℕ
 get_interface = 0x81 ∷ 0x0a ∷ 0 ∷ 0 ∷ 0 ∷ 0 ∷ 1 ∷ 0 ∷ []
+
+-- a device that was just reset, and is asked for its descriptor, meets the conditions of the law on control reads
+abbrev pub PlainIsRead : Type 0
+PlainIsRead = IsRead plain (Bus event.Reset ∷ Irq ∷ []) 0 get_device device
 
 -- Control transfers with data for the host (8.5.3)
 pub record Reads : Type 0 where

@@ -2,3 +2,4 @@ pub mod Stages
 pub mod Requests
 pub mod Examples
 pub mod Seen
+pub mod Reading

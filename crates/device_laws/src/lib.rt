@@ -2,12 +2,16 @@
 //! functions do nothing: each contract is a law.
 #![tactic(auto)]
 
-ghost use Rattle.std.specs.Prelude.{◌≡◌, true};
+ghost use Rattle.std.specs.Prelude.{◌≡◌, List, true};
+ghost use Rattle.usb_descriptor.specs.Set.{Set};
+ghost use Rattle.usb_text.specs.declared.line.DevLine.{DevLine};
+ghost use Rattle.device_schedule.specs.Schedule.{answer_to, core_answer, core_state};
 ghost use Rattle.usb_control.specs.Table.{rows};
 ghost use Rattle.device_laws.specs.Stages.{DataStages, HasPacket};
 ghost use Rattle.device_laws.specs.Requests.{all_differ, Each, IsDone, Directions};
-ghost use Rattle.device_laws.specs.Examples.{Reads, Setups, Addresses, Sessions};
+ghost use Rattle.device_laws.specs.Examples.{PlainIsRead, Reads, Setups, Addresses, Sessions};
 ghost use Rattle.device_laws.specs.Seen.{AddressIsSeen, SetupIsHeard, OthersAreIgnored, BusyAnswersNak};
+ghost use Rattle.device_laws.specs.Reading.{ReadsAreDelivered};
 
 /// The packets of a data stage for the host: joined they are the data, cut to what the host asks for; each but the last has
 /// 64 bytes; the last is shorter, or the host has all that it asked for; and it is empty only where the host asked for more
@@ -49,4 +53,20 @@ pub fn setups_are_heard()
     ensures ignored { OthersAreIgnored }
     ensures setup { SetupIsHeard }
     ensures busy { BusyAnswersNak }
+{}
+
+/// A control read over every order of IN tokens, handler runs and task runs behind its SETUP, whatever data and whatever
+/// acknowledgements are lost. What the host took, each packet once, are the first packets of the data cut to what it asked
+/// for, and all of it once the stage is over for it. A packet that comes is the next one, or the last one again: toggles
+/// alternate from DATA1 on, and the same toggle brings the same bytes (USB 2.0, 8.5.3 and 8.6). A device that was just reset
+/// and is asked for its descriptor meets the law's conditions.
+pub fn reads_are_delivered()
+    ensures delivered { ReadsAreDelivered }
+    ensures met { PlainIsRead }
+{}
+
+/// Each answer to a schedule is that of the core, over the lines before it: the laws of the core's answers are laws of a
+/// schedule's answers.
+pub fn answers_are_of_the_core()
+    ensures { (set : Set) (before : List DevLine) (line : DevLine) → answer_to set before line ≡ core_answer (core_state set before) line }
 {}

@@ -1,0 +1,98 @@
+-- Where a control read stands, and what each step makes of it.
+use Rattle.std.proofs.Common.{◌≡◌, ℕ, zero, suc, List, [], ◌∷◌, ◌++◌, false, length, if◌then◌else◌, Option, Some, None, refl, sym, ap, ◌∙◌}
+use Rattle.usb_packet.specs.declared.bus.Toggle.{Toggle}
+use Rattle.usb_packet.specs.declared.bus.Toggle.TheVariants.{D0, D1}
+use Rattle.usb_packet.specs.declared.bus.BusAnswer.TheVariants as answers
+use Rattle.usb_packet.specs.Setup.{fields_of}
+use Rattle.usb_pipe.specs.declared.decision.Decision.TheVariants.{Data}
+use Rattle.usb_descriptor.specs.Set.{Set}
+use Rattle.usb_control.specs.declared.state.Effect.TheVariants as effect
+use Rattle.usb_control.specs.declared.state.Choice.TheVariants.{Own}
+use Rattle.usb_control.specs.Table.{choice}
+use Rattle.device_machine.specs.declared.control.Stage.{Stage}
+use Rattle.device_machine.specs.declared.control.Stage.TheVariants.{Sent}
+use Rattle.device_machine.specs.declared.control.Side.{Side}
+use Rattle.device_machine.specs.declared.control.Side.TheVariants.{Off, Wait, Loaded, Last, Armed, Finished}
+use Rattle.device_machine.specs.Bus.{is_empty, flipped, finished_stage, last_of}
+use Rattle.device_machine.specs.Core.{Core, Transfer, Sending, state_of, new_address}
+use Rattle.device_laws.specs.Reading.{Host, takes, gets, toggle_at}
+
+-- a device with a SETUP that no task has taken
+abbrev pub starting : Core → List (List ℕ) → Side → Option Stage → Option (List ℕ) → Transfer → Core
+starting base unserved side stage request transfer = record base {
+  bus = record base.bus { reset = false; unserved = unserved; side = side; toggle = D1 };
+  finished = stage;
+  request = request;
+  transfer = transfer;
+}
+
+-- a device in the data stage
+abbrev pub running : Core → Side → Option Stage → List (List ℕ) → Toggle → Core
+running base side stage rest toggle = record base {
+  bus = record base.bus { reset = false; unserved = []; side = side; toggle = toggle };
+  finished = stage;
+  request = None;
+  transfer = Sending rest;
+}
+
+abbrev pub host_of : List (List ℕ) → Host
+host_of took = record { expects = toggle_at (length took); took = took }
+
+-- a packet that is loaded, with these behind it
+abbrev pub ready : List ℕ → List (List ℕ) → Side
+ready packet rest = if is_empty rest then Last packet else Loaded packet
+
+abbrev pub Decides : Set → List ℕ → List ℕ → Core → Type 0
+Decides set setup bytes base = choice set (state_of base) (fields_of setup) ≡ Own (Data (record { items = bytes })) effect.None
+
+pub data Reads (set : Set) (setup bytes : List ℕ) (packets : List (List ℕ)) : Core → Host → Type 0 where
+  -- no handler run has served the SETUP
+  heard : (base : Core) (x : List ℕ) (xs : List (List ℕ)) (side : Side) (stage : Option Stage) (transfer : Transfer) → last_of (x ∷ xs) ≡ Some setup
+      → new_address transfer (finished_stage side) ≡ None → Decides set setup bytes base → Reads set setup bytes packets (starting base (x ∷ xs) side stage None transfer) (host_of [])
+  -- no task has taken it
+  noted : (base : Core) (stage : Option Stage) (transfer : Transfer) → Decides set setup bytes base → Reads set setup bytes packets (starting base [] Off stage (Some setup) transfer) (host_of [])
+  -- a packet waits for a handler run
+  waits : (base : Core) (took : List (List ℕ)) (packet : List ℕ) (rest : List (List ℕ)) → packets ≡ took ++ packet ∷ rest
+      → Reads set setup bytes packets (running base (Wait packet (is_empty rest)) None rest (toggle_at (length took))) (host_of took)
+  -- it is loaded, and the host lacks it; or has it, and its acknowledgement was lost
+  lacks : (base : Core) (took : List (List ℕ)) (packet : List ℕ) (rest : List (List ℕ)) → packets ≡ took ++ packet ∷ rest
+      → Reads set setup bytes packets (running base (ready packet rest) None rest (toggle_at (length took))) (host_of took)
+  has : (base : Core) (took : List (List ℕ)) (packet : List ℕ) (rest : List (List ℕ)) → packets ≡ (took ++ packet ∷ []) ++ rest
+      → Reads set setup bytes packets (running base (ready packet rest) None rest (toggle_at (length took))) (host_of (took ++ packet ∷ []))
+  -- the host acknowledged it; a handler run noted that; and it was the last one
+  sent : (base : Core) (took : List (List ℕ)) (next : List ℕ) (rest : List (List ℕ)) → packets ≡ took ++ next ∷ rest
+      → Reads set setup bytes packets (running base (Finished Sent) None (next ∷ rest) (toggle_at (length took))) (host_of took)
+  told : (base : Core) (took : List (List ℕ)) (next : List ℕ) (rest : List (List ℕ)) → packets ≡ took ++ next ∷ rest
+      → Reads set setup bytes packets (running base Off (Some Sent) (next ∷ rest) (toggle_at (length took))) (host_of took)
+  over : (base : Core) (took : List (List ℕ)) → packets ≡ took → Reads set setup bytes packets (running base Armed None [] (toggle_at (length took))) (host_of took)
+
+-- toggles alternate
+flip_at : (n : ℕ) → toggle_at (suc n) ≡ flipped (toggle_at n)
+flip_at zero = refl
+flip_at (suc zero) = refl
+flip_at (suc (suc n)) = flip_at n
+
+length_more : (took : List (List ℕ)) (packet : List ℕ) → length (took ++ packet ∷ []) ≡ suc (length took)
+length_more [] packet = refl
+length_more (x ∷ xs) packet = ap suc (length_more xs packet)
+
+pub toggle_more : (took : List (List ℕ)) (packet : List ℕ) → toggle_at (length (took ++ packet ∷ [])) ≡ flipped (toggle_at (length took))
+toggle_more took packet = ap toggle_at (length_more took packet) ∙ flip_at (length took)
+
+takes_same : (host : Host) (t : Toggle) (packet : List ℕ) → takes host t t packet ≡ record { expects = flipped t; took = host.took ++ packet ∷ [] }
+takes_same host D0 packet = refl
+takes_same host D1 packet = refl
+
+takes_other : (host : Host) (t : Toggle) (packet : List ℕ) → takes host (flipped t) t packet ≡ host
+takes_other host D0 packet = refl
+takes_other host D1 packet = refl
+
+pub gets_new : (took : List (List ℕ)) (packet : List ℕ) → gets (host_of took) (answers.Data (toggle_at (length took)) packet) ≡ host_of (took ++ packet ∷ [])
+gets_new took packet =
+    takes_same (host_of took) (toggle_at (length took)) packet
+    ∙ ap (λ t. record { expects = t; took = took ++ packet ∷ [] }) (sym (toggle_more took packet))
+
+pub gets_old : (took : List (List ℕ)) (packet : List ℕ) → gets (host_of (took ++ packet ∷ [])) (answers.Data (toggle_at (length took)) packet) ≡ host_of (took ++ packet ∷ [])
+gets_old took packet =
+    ap (λ t. takes (host_of (took ++ packet ∷ [])) t (toggle_at (length took)) packet) (toggle_more took packet)
+    ∙ takes_other (host_of (took ++ packet ∷ [])) (toggle_at (length took)) packet

@@ -1,0 +1,146 @@
+-- A control read from the host's side: what it takes of the data stage, whatever is lost (USB 2.0, 8.5.3 and 8.6).
+use Rattle.std.specs.Prelude.{◌≡◌, ◌<◌, ◌⊎◌, ℕ, zero, suc, List, [], ◌∷◌, ◌++◌, Bool, true, false, length, take, map, None}
+use Rattle.std.specs.List.{concat}
+use Rattle.usb_packet.specs.declared.bus.Owner.TheVariants as owner
+use Rattle.usb_packet.specs.declared.bus.Toggle.{Toggle}
+use Rattle.usb_packet.specs.declared.bus.Toggle.TheVariants.{D0, D1}
+use Rattle.usb_packet.specs.declared.bus.BusEvent.TheVariants as event
+use Rattle.usb_packet.specs.declared.bus.BusAnswer.{BusAnswer}
+use Rattle.usb_packet.specs.declared.bus.BusAnswer.TheVariants as answers
+use Rattle.usb_packet.specs.Setup.{fields_of}
+use Rattle.usb_pipe.specs.declared.decision.Decision.TheVariants.{Data}
+use Rattle.usb_descriptor.specs.Set.{Set}
+use Rattle.usb_control.specs.declared.state.Effect.TheVariants as effect
+use Rattle.usb_control.specs.declared.state.Choice.TheVariants.{Own}
+use Rattle.usb_control.specs.Table.{choice}
+use Rattle.usb_text.specs.declared.line.DevLine.{DevLine}
+use Rattle.usb_text.specs.declared.line.DevLine.TheVariants.{Bus, Irq, Task}
+use Rattle.device_machine.specs.Bus.{bus_answer}
+use Rattle.device_machine.specs.Core.{Core, state_of}
+use Rattle.device_machine.specs.Packets.{data_packets}
+use Rattle.device_schedule.specs.Schedule.{machine, state_after, core_after, core_state}
+use Rattle.device_laws.specs.Seen.{seen_of}
+use Rattle.device_laws.specs.Stages.{Last}
+
+-- what becomes of an IN transaction: its data is lost; the host has it and its acknowledgement is lost; both come through
+pub data Fate : Type 0 where
+  DataLost : Fate
+  AckLost : Fate
+  Whole : Fate
+
+-- what happens after the SETUP: an IN token on endpoint 0, a handler run, a task run
+pub data Step : Type 0 where
+  Token : (addr : ℕ) (fate : Fate) → Step
+  Handler : Step
+  Work : Step
+
+-- the device sees the host's acknowledgement
+abbrev pub confirmed : Fate → Bool
+confirmed DataLost = false
+confirmed AckLost = false
+confirmed Whole = true
+
+abbrev pub line_of : Step → DevLine
+line_of (Token addr fate) = Bus (event.In addr 0 (confirmed fate))
+line_of Handler = Irq
+line_of Work = Task
+
+-- a host in a data stage: the toggle that it expects, and the packets that it took
+pub record Host : Type 0 where
+  pub expects : Toggle
+  pub took : List (List ℕ)
+
+-- the first packet behind a SETUP is DATA1 (8.5.3)
+abbrev pub at_setup : Host
+at_setup = record { expects = D1; took = [] }
+
+-- a packet with the toggle that it expects is new. The host acknowledges another one and drops it, since it has it (8.6.4)
+abbrev pub takes : Host → Toggle → Toggle → List ℕ → Host
+takes host D1 D1 packet = record { expects = D0; took = host.took ++ packet ∷ [] }
+takes host D0 D0 packet = record { expects = D1; took = host.took ++ packet ∷ [] }
+takes host D1 D0 packet = host
+takes host D0 D1 packet = host
+
+abbrev pub gets : Host → BusAnswer → Host
+gets host (answers.Data toggle packet) = takes host host.expects toggle packet
+gets host answers.Done = host
+gets host answers.Ack = host
+gets host answers.Nak = host
+gets host answers.Stall = host
+gets host answers.NoAnswer = host
+
+abbrev pub host_token : Host → Fate → BusAnswer → Host
+host_token host DataLost a = host
+host_token host AckLost a = gets host a
+host_token host Whole a = gets host a
+
+abbrev pub host_step : Core → Host → Step → Host
+host_step core host (Token addr fate) = host_token host fate (bus_answer core.bus (event.In addr 0 (confirmed fate)))
+host_step core host Handler = host
+host_step core host Work = host
+
+-- what a host has after these steps, from a device and a host on
+abbrev pub host_after : Set → Core → Host → List Step → Host
+host_after set core host [] = host
+host_after set core host (step ∷ steps) = host_after set (core_after set core (line_of step)) (host_step core host step) steps
+
+-- the device after them
+abbrev pub core_steps : Set → Core → List Step → Core
+core_steps set core steps = state_after (machine set owner.Core) core (map line_of steps)
+
+-- packet number n of a data stage, from 0 on, has this toggle: they alternate from DATA1 on (8.5.3)
+abbrev pub toggle_at : ℕ → Toggle
+toggle_at zero = D1
+toggle_at (suc zero) = D0
+toggle_at (suc (suc n)) = toggle_at n
+
+-- some packets are the first of others
+abbrev pub IsFront : List (List ℕ) → List (List ℕ) → Type 0
+IsFront few all = (rest : List (List ℕ)) × (all ≡ few ++ rest)
+
+-- a data packet is the next one that the host lacks, with that one's toggle; or, again, the last that it took, with the toggle
+-- that it had then. Else endpoint 0 isn't ready, or the token isn't for this device
+abbrev pub IsDue : List (List ℕ) → List (List ℕ) → BusAnswer → Type 0
+IsDue packets took (answers.Data toggle packet) =
+    ((toggle ≡ toggle_at (length took)) × IsFront (took ++ packet ∷ []) packets)
+    ⊎ ((before : List (List ℕ)) × (took ≡ before ++ packet ∷ []) × (toggle ≡ toggle_at (length before)))
+IsDue packets took answers.Nak = Unit {0}
+IsDue packets took answers.NoAnswer = Unit {0}
+IsDue packets took answers.Done = ⊥
+IsDue packets took answers.Ack = ⊥
+IsDue packets took answers.Stall = ⊥
+
+-- the host has all that it asked for, or got a packet that isn't full: for it the data stage is over (8.5.3.2)
+abbrev pub IsOver : ℕ → List (List ℕ) → Type 0
+IsOver asked [] = ⊥
+IsOver asked (packet ∷ packets) = (length (concat (packet ∷ packets)) ≡ asked) ⊎ Last (λ last. length last < 64) (packet ∷ packets)
+
+-- what a host has of a data stage of these bytes, of which it asked for so many
+pub record IsDelivered (bytes : List ℕ) (asked : ℕ) (core : Core) (host : Host) : Type 0 where
+  -- it took the first packets, each once and in order
+  pub front : IsFront host.took (data_packets bytes asked)
+  -- their bytes are the first of the data, cut to what it asked for
+  pub joined : (rest : List ℕ) × (take asked bytes ≡ concat host.took ++ rest)
+  -- and once the stage is over they are all of it
+  pub all : IsOver asked host.took → concat host.took ≡ take asked bytes
+  -- whatever token comes next
+  pub due : (addr : ℕ) (ok : Bool) → IsDue (data_packets bytes asked) host.took (bus_answer core.bus (event.In addr 0 ok))
+
+-- a SETUP that a device acknowledges after these lines, and whose request gives bytes. No request before it waits for a task,
+-- and no new address for a handler run
+pub record IsRead (set : Set) (lines : List DevLine) (addr : ℕ) (setup bytes : List ℕ) : Type 0 where
+  pub heard : bus_answer (core_state set lines).bus (event.Setup addr setup true) ≡ answers.Ack
+  pub alone : (seen_of set lines).noted ≡ false
+  pub settled : (seen_of set lines).due ≡ None
+  pub gives : choice set (state_of (core_state set lines)) (fields_of setup) ≡ Own (Data (record { items = bytes })) effect.None
+  pub some : 0 < (fields_of setup).length
+
+-- the device when it acknowledged it
+abbrev pub asked_core : Set → List DevLine → ℕ → List ℕ → Core
+asked_core set lines addr setup = core_after set (core_state set lines) (Bus (event.Setup addr setup true))
+
+-- whatever steps follow, in whatever order
+abbrev pub ReadsAreDelivered : Type 0
+ReadsAreDelivered = (set : Set) (lines : List DevLine) (addr : ℕ) (setup bytes : List ℕ) → IsRead set lines addr setup bytes → (steps : List Step)
+    → IsDelivered bytes (fields_of setup).length (core_steps set (asked_core set lines addr setup) steps)
+    (host_after set (asked_core set lines addr setup) at_setup steps)
