@@ -4,8 +4,8 @@ ghost use Rattle.device_table.specs.State.{first};
 ghost use Rattle.device_table.specs.Bank.{most_accesses, counted};
 ghost use Rattle.device_table.specs.Bus.{bus_answer, after_bus};
 
+use crate::access_list::AccessList;
 use crate::controller::Controller;
-use arrayvec::ArrayVec;
 use dwc2_access::Regs;
 use dwc2_regs::{Access, Profile};
 use std::marker::Model;
@@ -19,7 +19,7 @@ const MOST_ACCESSES: u16 = 400;
 pub struct DevCore {
     controller: Controller,
     spare: u16,
-    accesses: ArrayVec<Access, 400>,
+    accesses: AccessList,
     made: u16,
 }
 
@@ -29,9 +29,9 @@ impl Model for DevCore {
 
     ghost Value = { Bank };
 
-    ghost view = { λ c. record { table = c.controller; spare = c.spare; log = c.accesses.items; due = []; made = c.made; given = [] } };
+    ghost view = { λ c. record { table = c.controller; spare = c.spare; log = c.accesses; due = []; made = c.made; given = [] } };
 
-    ghost invariant = { λ c. (length c.accesses.items + c.spare ≤ most_accesses) × (c.made ≤ last_made) };
+    ghost invariant = { λ c. (length c.accesses + c.spare ≤ most_accesses) × (c.made ≤ last_made) };
 }
 
 impl DevCore {
@@ -43,7 +43,7 @@ impl DevCore {
         DevCore {
             controller: Controller::new(),
             spare: MOST_ACCESSES,
-            accesses: ArrayVec::new(),
+            accesses: AccessList::new(),
             made: 0,
         }
     }

@@ -5,6 +5,7 @@
 //! what was done before: FIFOs are as deep as the plan says.
 #![tactic(auto)]
 
+mod access_list;
 mod bus;
 mod controller;
 mod device_core;
