@@ -6,11 +6,11 @@ use Rattle.usb_packet.specs.declared.bus.BusEvent.TheVariants as event
 use Rattle.usb_packet.specs.declared.bus.BusAnswer.TheVariants as answers
 use Rattle.usb_pipe.specs.declared.reply.Reply.TheVariants as reply
 use Rattle.usb_descriptor.specs.Set.{Set}
-use Rattle.usb_text.specs.declared.line.DevLine.{DevLine}
-use Rattle.usb_text.specs.declared.line.DevLine.TheVariants.{Bus, Irq, Task, Call}
-use Rattle.usb_text.specs.declared.call.DevCall.TheVariants.{State}
-use Rattle.usb_text.specs.declared.line.Answer.{Answer}
-use Rattle.usb_text.specs.declared.line.Answer.TheVariants as answer
+use Rattle.device_line.specs.declared.line.DevLine.{DevLine}
+use Rattle.device_line.specs.declared.line.DevLine.TheVariants.{Bus, Irq, Task, Call}
+use Rattle.device_line.specs.declared.call.DevCall.TheVariants.{State}
+use Rattle.device_line.specs.declared.line.Answer.{Answer}
+use Rattle.device_line.specs.declared.line.Answer.TheVariants as answer
 use Rattle.device_schedule.specs.Schedule.{answers as schedule_answers}
 use Rattle.device_laws.specs.Reading.{IsRead}
 

@@ -13,8 +13,8 @@ use Rattle.usb_descriptor.specs.Set.{Set}
 use Rattle.usb_control.specs.declared.state.Effect.TheVariants as effect
 use Rattle.usb_control.specs.declared.state.Choice.TheVariants.{Own}
 use Rattle.usb_control.specs.Table.{choice}
-use Rattle.usb_text.specs.declared.line.DevLine.{DevLine}
-use Rattle.usb_text.specs.declared.line.DevLine.TheVariants.{Bus, Irq, Task}
+use Rattle.device_line.specs.declared.line.DevLine.{DevLine}
+use Rattle.device_line.specs.declared.line.DevLine.TheVariants.{Bus, Irq, Task}
 use Rattle.device_machine.specs.Bus.{bus_answer}
 use Rattle.device_machine.specs.Core.{Core, state_of}
 use Rattle.device_machine.specs.Packets.{data_packets}

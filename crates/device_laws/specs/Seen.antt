@@ -9,8 +9,8 @@ use Rattle.usb_packet.specs.declared.bus.BusAnswer.{BusAnswer}
 use Rattle.usb_packet.specs.declared.bus.BusAnswer.TheVariants as answers
 use Rattle.usb_packet.specs.Setup.{fields_of}
 use Rattle.usb_descriptor.specs.Set.{Set}
-use Rattle.usb_text.specs.declared.line.DevLine.{DevLine}
-use Rattle.usb_text.specs.declared.line.DevLine.TheVariants.{Bus, Irq, Task, Call}
+use Rattle.device_line.specs.declared.line.DevLine.{DevLine}
+use Rattle.device_line.specs.declared.line.DevLine.TheVariants.{Bus, Irq, Task, Call}
 use Rattle.device_machine.specs.Bus.{bus_answer}
 use Rattle.device_machine.specs.Core.{Core, start}
 use Rattle.device_schedule.specs.Schedule.{core_after, core_state}

@@ -4,7 +4,7 @@
 
 ghost use Rattle.std.specs.Prelude.{◌≡◌, List, true};
 ghost use Rattle.usb_descriptor.specs.Set.{Set};
-ghost use Rattle.usb_text.specs.declared.line.DevLine.{DevLine};
+ghost use Rattle.device_line.specs.declared.line.DevLine.{DevLine};
 ghost use Rattle.device_schedule.specs.Schedule.{answer_to, core_answer, core_state};
 ghost use Rattle.usb_control.specs.Table.{rows};
 ghost use Rattle.device_laws.specs.Stages.{DataStages, HasPacket};

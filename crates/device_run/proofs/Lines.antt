@@ -6,8 +6,8 @@ use Rattle.usb_packet.specs.declared.bus.BusAnswer.TheVariants.{Done}
 use Rattle.dwc2_regs.specs.declared.access.Access.{Access}
 use Rattle.device_table.specs.Bank.{Bank, begun}
 use Rattle.dwc2_access.specs.Run.{AreSteps, accesses_after}
-use Rattle.usb_text.specs.declared.line.DevLine.TheVariants.{Irq, Task}
-use Rattle.usb_text.specs.declared.line.Answer.TheVariants.{Bus as TheBus}
+use Rattle.device_line.specs.declared.line.DevLine.TheVariants.{Irq, Task}
+use Rattle.device_line.specs.declared.line.Answer.TheVariants.{Bus as TheBus}
 use Rattle.device_machine.specs.Core.{after_irq, after_task}
 use Rattle.device_schedule.specs.Trace.{AreWork}
 use Rattle.dwc2_device.specs.Driver.{GoesOn, stays}

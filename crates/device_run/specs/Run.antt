@@ -3,8 +3,8 @@ use Rattle.std.specs.Prelude.{◌≡◌, List}
 use Rattle.dwc2_regs.specs.declared.access.Access.{Access}
 use Rattle.device_table.specs.State.{Table}
 use Rattle.usb_descriptor.specs.Set.{Set}
-use Rattle.usb_text.specs.declared.line.DevLine.{DevLine}
-use Rattle.usb_text.specs.declared.line.Answer.{Answer}
+use Rattle.device_line.specs.declared.line.DevLine.{DevLine}
+use Rattle.device_line.specs.declared.line.Answer.{Answer}
 use Rattle.device_machine.specs.Core.{Core}
 use Rattle.device_schedule.specs.Schedule.{core_answer, core_after}
 use Rattle.device_schedule.specs.Trace.{IsTurn, after_turn}

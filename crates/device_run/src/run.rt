@@ -41,8 +41,8 @@ impl Model for DeviceRun {
 }
 
 impl DeviceRun {
-    ghost use Rattle.usb_text.specs.declared.line.DevLine.TheVariants.{Bus, Irq, Task, Call};
-    ghost use Rattle.usb_text.specs.declared.line.Answer.TheVariants.{Bus as TheBus, Reply as TheReply};
+    ghost use Rattle.device_line.specs.declared.line.DevLine.TheVariants.{Bus, Irq, Task, Call};
+    ghost use Rattle.device_line.specs.declared.line.Answer.TheVariants.{Bus as TheBus, Reply as TheReply};
     ghost use Rattle.usb_packet.specs.declared.bus.BusAnswer.TheVariants.{Done};
     ghost use Rattle.device_run.specs.Run.{Steps};
 

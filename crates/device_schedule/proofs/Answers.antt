@@ -6,9 +6,9 @@ use Rattle.usb_packet.specs.declared.bus.Owner.{Owner}
 use Rattle.usb_packet.specs.declared.bus.Owner.TheVariants as owner
 use Rattle.usb_packet.specs.declared.bus.BusEvent.TheVariants as event
 use Rattle.usb_descriptor.specs.Set.{Set, same_owner, owner_of_endpoint}
-use Rattle.usb_text.specs.declared.line.DevLine.{DevLine}
-use Rattle.usb_text.specs.declared.line.DevLine.TheVariants.{Bus, Irq, Task, Call}
-use Rattle.usb_text.specs.declared.line.Answer.{Answer}
+use Rattle.device_line.specs.declared.line.DevLine.{DevLine}
+use Rattle.device_line.specs.declared.line.DevLine.TheVariants.{Bus, Irq, Task, Call}
+use Rattle.device_line.specs.declared.line.Answer.{Answer}
 use Rattle.device_machine.specs.Core.{Core}
 use Rattle.device_schedule.specs.Schedule.{core_answer, core_after, machine, machine_answer, owner_of, out_address, in_address, sees_packet, sees, part, state_after, core_state, answer_to, answers_after, answers, answer_line, device_text}
 

@@ -3,7 +3,7 @@ use Rattle.std.proofs.Common.{◌≡◌, ℕ, ◌+◌, ◌≤◌, ◌<◌, List,
 use Rattle.std.proofs.lemmas.List.{append-nil}
 use Rattle.std.proofs.lemmas.List.Folds.{list_all-append}
 use Rattle.std.proofs.lemmas.Bool.Decides.{nat_tests}
-use Rattle.usb_text.specs.declared.line.DevLine.{DevLine}
+use Rattle.device_line.specs.declared.line.DevLine.{DevLine}
 use Rattle.usb_text.specs.declared.line.Line.TheVariants.{Device}
 use Rattle.usb_text.specs.declared.head.HeadLine.{HeadLine}
 use Rattle.usb_text.specs.Line.{newline, line_text}

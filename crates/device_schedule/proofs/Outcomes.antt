@@ -10,7 +10,7 @@ use Rattle.usb_descriptor.specs.declared.limits.SetFault.{SetFault}
 use Rattle.line_rules.specs.declared.rules.Mode.TheVariants as mode
 use Rattle.line_rules.specs.declared.rules.Place.TheVariants as place
 use Rattle.line_rules.specs.Rules.{lowest}
-use Rattle.usb_text.specs.declared.line.DevLine.{DevLine}
+use Rattle.device_line.specs.declared.line.DevLine.{DevLine}
 use Rattle.usb_text.specs.Scheduled as schedule
 use Rattle.usb_text.specs.declared.line.Line.TheVariants.{Device, End}
 use Rattle.usb_text.specs.declared.head.HeadLine.{HeadLine}

@@ -7,8 +7,8 @@ use Rattle.dwc2_regs.specs.declared.access.Access.{Access}
 use Rattle.device_table.specs.State.{Table, opened}
 use Rattle.usb_descriptor.specs.Set.{Set}
 use Rattle.register_text.specs.declared.access.Side.TheVariants.{Plain}
-use Rattle.usb_text.specs.declared.line.DevLine.{DevLine}
-use Rattle.usb_text.specs.declared.line.Answer.{Answer}
+use Rattle.device_line.specs.declared.line.DevLine.{DevLine}
+use Rattle.device_line.specs.declared.line.Answer.{Answer}
 use Rattle.usb_text.specs.Line.{answer_text, newline}
 use Rattle.usb_text.specs.Plain.{is_plain}
 use Rattle.usb_text.proofs.Accesses.{is_way, is_side, begins_an_access, answer_begins, access_is_plain}

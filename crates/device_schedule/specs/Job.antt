@@ -6,7 +6,7 @@ use Rattle.usb_descriptor.specs.declared.strings.StringPart.{StringPart}
 use Rattle.usb_descriptor.specs.declared.limits.EpLimits.{EpLimits}
 use Rattle.usb_descriptor.specs.declared.limits.SetFault.{SetFault}
 use Rattle.usb_descriptor.specs.Verdict.{verdict}
-use Rattle.usb_text.specs.declared.line.DevLine.{DevLine}
+use Rattle.device_line.specs.declared.line.DevLine.{DevLine}
 use Rattle.usb_text.specs.declared.line.Line.TheVariants.{Device, End}
 use Rattle.usb_text.specs.declared.head.HeadLine.{HeadLine}
 use Rattle.usb_text.specs.declared.head.HeadLine.TheVariants as head

@@ -9,14 +9,14 @@ use Rattle.usb_packet.specs.declared.bus.BusAnswer.TheVariants.{Done}
 use Rattle.usb_packet.specs.Setup.{fields_of}
 use Rattle.usb_descriptor.specs.Set.{Set, same_owner, owner_of_endpoint}
 use Rattle.usb_control.specs.Table.{owner_of as setup_owner}
-use Rattle.usb_text.specs.declared.line.DevLine.{DevLine}
-use Rattle.usb_text.specs.declared.line.DevLine.TheVariants.{Bus, Irq, Task, Call}
+use Rattle.device_line.specs.declared.line.DevLine.{DevLine}
+use Rattle.device_line.specs.declared.line.DevLine.TheVariants.{Bus, Irq, Task, Call}
 use Rattle.usb_pipe.specs.declared.reply.Reply.{Reply}
 use Rattle.usb_pipe.specs.declared.reply.Reply.TheVariants as reply
-use Rattle.usb_text.specs.declared.call.DevCall.{DevCall}
-use Rattle.usb_text.specs.declared.call.DevCall.TheVariants.{State, Cdc, Hid, Msc, Midi}
-use Rattle.usb_text.specs.declared.line.Answer.{Answer}
-use Rattle.usb_text.specs.declared.line.Answer.TheVariants as answer
+use Rattle.device_line.specs.declared.call.DevCall.{DevCall}
+use Rattle.device_line.specs.declared.call.DevCall.TheVariants.{State, Cdc, Hid, Msc, Midi}
+use Rattle.device_line.specs.declared.line.Answer.{Answer}
+use Rattle.device_line.specs.declared.line.Answer.TheVariants as answer
 use Rattle.usb_text.specs.Line.{answer_text, newline}
 use Rattle.device_machine.specs.Bus.{bus_answer}
 use Rattle.device_machine.specs.Core.{Core, start, after_bus, after_irq, after_task}

@@ -10,10 +10,10 @@ use Rattle.dwc2_access.specs.Run.{AreSteps, accesses_after}
 use Rattle.usb_descriptor.specs.Set.{Set}
 use Rattle.register_text.specs.declared.access.Side.TheVariants.{Plain}
 use Rattle.register_text.specs.Access.{access_text, IsAccess}
-use Rattle.usb_text.specs.declared.line.DevLine.{DevLine}
-use Rattle.usb_text.specs.declared.line.DevLine.TheVariants.{Bus, Irq, Task, Call}
-use Rattle.usb_text.specs.declared.line.Answer.{Answer}
-use Rattle.usb_text.specs.declared.line.Answer.TheVariants as answer
+use Rattle.device_line.specs.declared.line.DevLine.{DevLine}
+use Rattle.device_line.specs.declared.line.DevLine.TheVariants.{Bus, Irq, Task, Call}
+use Rattle.device_line.specs.declared.line.Answer.{Answer}
+use Rattle.device_line.specs.declared.line.Answer.TheVariants as answer
 use Rattle.usb_text.specs.Line.{answer_text, newline}
 use Rattle.device_schedule.specs.Schedule.{answers}
 

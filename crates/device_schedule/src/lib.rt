@@ -9,7 +9,7 @@ ghost use Rattle.device_schedule.specs.Outcome.{Outcome, IsOutcome};
 ghost use Rattle.device_schedule.specs.Schedule.{answer_line};
 ghost use Rattle.device_schedule.specs.Trace.{Turn, IsTrace, trace_lines, trace_text, without_registers};
 ghost use Rattle.usb_descriptor.specs.Set.{Set};
-ghost use Rattle.usb_text.specs.declared.line.DevLine.{DevLine};
+ghost use Rattle.device_line.specs.declared.line.DevLine.{DevLine};
 
 /// A law: a job is read in one way. No bytes have two outcomes: they spell one job at most, or their first line that is
 /// refused and its rule, the rule that their set breaks, or the number of their lines, is one.

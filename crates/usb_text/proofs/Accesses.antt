@@ -13,8 +13,8 @@ use Rattle.register_text.specs.declared.access.Side.{Side}
 use Rattle.register_text.specs.declared.access.Side.TheVariants as side
 use Rattle.register_text.specs.Access.{digits, mark, access_words, access_text}
 use Rattle.register_text.proofs.Accesses.{access_words_are_words}
-use Rattle.usb_text.specs.declared.line.Answer.{Answer}
-use Rattle.usb_text.specs.declared.line.Answer.TheVariants as answer
+use Rattle.device_line.specs.declared.line.Answer.{Answer}
+use Rattle.device_line.specs.declared.line.Answer.TheVariants as answer
 use Rattle.usb_text.specs.Line.{answer_text}
 use Rattle.usb_text.specs.Reply.{bus_words, host_words, reply_words}
 use Rattle.usb_text.specs.Plain.{is_plain}

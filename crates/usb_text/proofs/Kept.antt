@@ -19,8 +19,8 @@ use Rattle.line_rules.specs.declared.rules.Place.TheVariants as place
 use Rattle.line_rules.specs.Kinds.{kind_of, head_kind_of, bad, noack}
 use Rattle.line_rules.specs.Rules.{rule_1, rule_2, is_printable, first_of, schedule_row_of, head_row_of, is_empty, is_number, is_hex_digit, is_bytes, is_either, lowest}
 use Rattle.line_rules.proofs.Judged.{lowest_in}
-use Rattle.usb_text.specs.declared.line.DevLine.TheVariants.{Bus, Irq, Task, Call}
-use Rattle.usb_text.specs.declared.call.DevCall.TheVariants as call
+use Rattle.device_line.specs.declared.line.DevLine.TheVariants.{Bus, Irq, Task, Call}
+use Rattle.device_line.specs.declared.call.DevCall.TheVariants as call
 use Rattle.usb_text.specs.Scheduled.{Scheduled}
 use Rattle.usb_text.specs.Scheduled.{Device, End}
 use Rattle.usb_text.specs.declared.head.HeadLine.{HeadLine}

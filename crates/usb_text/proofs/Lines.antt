@@ -9,7 +9,7 @@ use Rattle.line_rules.specs.declared.rules.Place.TheVariants as place
 use Rattle.line_rules.specs.Rules.{most_line, lowest}
 use Rattle.usb_text.specs.declared.head.HeadLine.{HeadLine}
 use Rattle.usb_text.specs.declared.head.HeadLine.TheVariants as head
-use Rattle.usb_text.specs.declared.line.DevLine.TheVariants.{Bus, Irq, Task, Call}
+use Rattle.device_line.specs.declared.line.DevLine.TheVariants.{Bus, Irq, Task, Call}
 use Rattle.usb_text.specs.Scheduled.{Scheduled}
 use Rattle.usb_text.specs.Scheduled as schedule
 use Rattle.usb_text.specs.declared.line.Line.{Line}

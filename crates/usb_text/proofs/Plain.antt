@@ -13,8 +13,8 @@ use Rattle.usb_words.proofs.Hex.{is_seen, is_word}
 use Rattle.usb_words.proofs.Decimal.{and_true}
 use Rattle.line_rules.specs.Kinds.{bad, noack}
 use Rattle.line_rules.specs.Rules.{most_line}
-use Rattle.usb_text.specs.declared.line.DevLine.TheVariants.{Bus, Irq, Task, Call}
-use Rattle.usb_text.specs.declared.call.DevCall.TheVariants as call
+use Rattle.device_line.specs.declared.line.DevLine.TheVariants.{Bus, Irq, Task, Call}
+use Rattle.device_line.specs.declared.call.DevCall.TheVariants as call
 use Rattle.usb_text.specs.Scheduled.{Scheduled}
 use Rattle.usb_text.specs.Scheduled.{Device, End}
 use Rattle.usb_text.specs.declared.head.HeadLine.{HeadLine}

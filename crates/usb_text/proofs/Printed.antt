@@ -11,8 +11,8 @@ use Rattle.usb_words.proofs.Hex.{is_word, hex_again, hex_is_word}
 use Rattle.usb_words.proofs.Decimal.{and_true, number_again, decimal_is_word}
 use Rattle.usb_words.proofs.Spaced.{pieces-spaced}
 use Rattle.line_rules.specs.Kinds.{bad, noack}
-use Rattle.usb_text.specs.declared.line.DevLine.TheVariants.{Bus, Irq, Task, Call}
-use Rattle.usb_text.specs.declared.call.DevCall.TheVariants as call
+use Rattle.device_line.specs.declared.line.DevLine.TheVariants.{Bus, Irq, Task, Call}
+use Rattle.device_line.specs.declared.call.DevCall.TheVariants as call
 use Rattle.usb_text.specs.Scheduled.{Scheduled}
 use Rattle.usb_text.specs.Scheduled.{Device, End}
 use Rattle.usb_text.specs.Line.{fate_text, toggle_text, schedule_words_of, schedule_text_of, IsScheduled}

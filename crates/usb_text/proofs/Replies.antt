@@ -14,8 +14,8 @@ use Rattle.usb_pipe.specs.declared.reply.HostWord.{HostWord}
 use Rattle.usb_pipe.specs.declared.reply.HostWord.TheVariants as host
 use Rattle.usb_words.specs.Field.{space, spaced, hex_digit, hex_pair, hex}
 use Rattle.usb_words.proofs.Decimal.{and_true}
-use Rattle.usb_text.specs.declared.line.Answer.{Answer}
-use Rattle.usb_text.specs.declared.line.Answer.TheVariants as answer
+use Rattle.device_line.specs.declared.line.Answer.{Answer}
+use Rattle.device_line.specs.declared.line.Answer.TheVariants as answer
 use Rattle.usb_text.specs.Reply.{data_name, bus_words, host_words, reply_words}
 use Rattle.usb_text.specs.Line.{newline, answer_words, answer_text}
 use Rattle.usb_text.specs.Plain.{is_plain}

@@ -10,8 +10,8 @@ use Rattle.usb_pipe.specs.declared.call.MscDeviceCall.TheVariants as msc
 use Rattle.usb_pipe.specs.declared.call.MidiCall.{MidiCall}
 use Rattle.usb_pipe.specs.declared.call.MidiCall.TheVariants as midi
 use Rattle.usb_words.specs.Field.{HasBytes, spaced, hex}
-use Rattle.usb_text.specs.declared.call.DevCall.{DevCall}
-use Rattle.usb_text.specs.declared.call.DevCall.TheVariants.{State, Cdc, Hid, Msc, Midi}
+use Rattle.device_line.specs.declared.call.DevCall.{DevCall}
+use Rattle.device_line.specs.declared.call.DevCall.TheVariants.{State, Cdc, Hid, Msc, Midi}
 
 abbrev pub cdc_words : CdcDeviceCall → List (List ℕ)
 cdc_words (cdc.Write bytes) = codes "cdc" ∷ codes "write" ∷ hex bytes.items ∷ []

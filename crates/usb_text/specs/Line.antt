@@ -8,14 +8,14 @@ use Rattle.usb_packet.specs.declared.bus.BusEvent.TheVariants as event
 use Rattle.usb_words.specs.Field.{AreBytes, spaced, hex}
 pub use Rattle.usb_words.specs.Field.{newline}
 use Rattle.line_rules.specs.Kinds.{bad, noack}
-use Rattle.usb_text.specs.declared.line.DevLine.{DevLine}
-use Rattle.usb_text.specs.declared.line.DevLine.TheVariants.{Bus, Irq, Task, Call}
+use Rattle.device_line.specs.declared.line.DevLine.{DevLine}
+use Rattle.device_line.specs.declared.line.DevLine.TheVariants.{Bus, Irq, Task, Call}
 use Rattle.usb_text.specs.Scheduled.{Scheduled}
 use Rattle.usb_text.specs.Scheduled as schedule
 use Rattle.usb_text.specs.declared.line.Line.{Line}
 use Rattle.usb_text.specs.declared.line.Line.TheVariants.{Head, Device, End}
-use Rattle.usb_text.specs.declared.line.Answer.{Answer}
-use Rattle.usb_text.specs.declared.line.Answer.TheVariants as answer
+use Rattle.device_line.specs.declared.line.Answer.{Answer}
+use Rattle.device_line.specs.declared.line.Answer.TheVariants as answer
 use Rattle.usb_text.specs.Call.{call_words, IsCall, IsServed}
 use Rattle.usb_text.specs.Head.{head_words, IsHead}
 use Rattle.usb_text.specs.Reply.{bus_words, reply_words}

@@ -8,8 +8,8 @@ use Rattle.usb_words.specs.Field.{pieces, none_left, number_of, bytes_in, exactl
 use Rattle.line_rules.specs.declared.kinds.Kind.{Kind}
 use Rattle.line_rules.specs.declared.kinds.Kind.TheVariants as kind
 use Rattle.line_rules.specs.Kinds.{kind_of, bad, noack}
-use Rattle.usb_text.specs.declared.line.DevLine.TheVariants.{Bus, Irq, Task, Call}
-use Rattle.usb_text.specs.declared.call.DevCall.TheVariants as call
+use Rattle.device_line.specs.declared.line.DevLine.TheVariants.{Bus, Irq, Task, Call}
+use Rattle.device_line.specs.declared.call.DevCall.TheVariants as call
 use Rattle.usb_text.specs.Scheduled.{Scheduled}
 use Rattle.usb_text.specs.Scheduled.{Device, End}
 use Rattle.usb_text.specs.Line.{most_address, most_endpoint}

@@ -1,7 +1,7 @@
 -- A line of a job after its head, and how the lines that are served are seen as such.
-use Rattle.usb_text.specs.declared.call.DevCall.TheVariants as call
-use Rattle.usb_text.specs.declared.line.DevLine.{DevLine}
-use Rattle.usb_text.specs.declared.line.DevLine.TheVariants as line
+use Rattle.device_line.specs.declared.call.DevCall.TheVariants as call
+use Rattle.device_line.specs.declared.line.DevLine.{DevLine}
+use Rattle.device_line.specs.declared.line.DevLine.TheVariants as line
 use Rattle.usb_text.specs.declared.line.ServedLine.{ServedLine}
 use Rattle.usb_text.specs.declared.line.ServedLine.TheVariants.{Bus, Irq, Task, State}
 use Rattle.usb_text.specs.declared.line.ScheduleLine.{ScheduleLine}

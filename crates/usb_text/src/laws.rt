@@ -9,7 +9,7 @@ ghost use Rattle.line_rules.specs.declared.rules.Place.TheVariants as place;
 ghost use Rattle.line_rules.specs.Rules.{lowest};
 ghost use Rattle.usb_text.specs.declared.line.Line.{Line};
 ghost use Rattle.usb_text.specs.Scheduled.{Scheduled};
-ghost use Rattle.usb_text.specs.declared.line.Answer.{Answer};
+ghost use Rattle.device_line.specs.declared.line.Answer.{Answer};
 ghost use Rattle.usb_text.specs.declared.head.HeadLine.{HeadLine};
 ghost use Rattle.usb_text.specs.Line.{line_text, IsLine, schedule_text_of, IsScheduled, answer_text};
 ghost use Rattle.usb_text.specs.Head.{head_text, IsHead};

@@ -1,7 +1,6 @@
 //! The lines of a job, of its answers and of accesses to registers: one spelling for each value.
 #![tactic(auto)]
 
-mod call;
 mod head;
 mod laws;
 mod line;
@@ -10,10 +9,10 @@ mod reply;
 mod show;
 mod show_call;
 
-pub use call::DevCall;
+pub use device_line::{Answer, DevCall, DevLine};
 pub use head::HeadLine;
 pub use laws::{one_spelling, register_lines, texts_keep_rules};
-pub use line::{Answer, DevLine, Line, ScheduleLine, ServedLine};
+pub use line::{Line, ScheduleLine, ServedLine};
 pub use line_rules::{LineFault, MOST_LINE, Mode, Place, lowest_rule};
 pub use reading::{read_head, read_line, read_schedule};
 pub use register_text::{MOST_ACCESS, Side, access_text, push_access_line};

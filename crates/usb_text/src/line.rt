@@ -6,11 +6,10 @@ ghost use Rattle.usb_text.specs.Scheduled.{scheduled, device_line};
 ghost use Rattle.usb_text.specs.Line.{most_address, most_endpoint};
 ghost use Rattle.usb_text.specs.Reading.{three, five, toggle_of, setup_words, out_words, in_words, alone, fields_line, line_of};
 
-use crate::call::DevCall;
 use crate::head::HeadLine;
+use device_line::{DevCall, DevLine};
 use line_rules::{Kind, kind_of};
-use usb_packet::{BusAnswer, BusEvent, Packet, Toggle};
-use usb_pipe::Reply;
+use usb_packet::{BusEvent, Packet, Toggle};
 use usb_words::{Words, read_hex, small_number};
 
 /// The greatest device address (USB 2.0, 8.3.2.1).
@@ -18,23 +17,6 @@ const MOST_ADDRESS: u8 = 127;
 
 /// The greatest endpoint number (USB 2.0, 8.3.2.2).
 const MOST_ENDPOINT: u8 = 15;
-
-/// A line of a device's schedule: what happens on the bus, one handler run, one task run, or one call.
-#[derive(Drop)]
-pub enum DevLine {
-    Bus(BusEvent),
-    Irq,
-    Task,
-    Call(DevCall),
-}
-
-/// The answer to a line: what the device answers on the bus, or what a call is answered. Handler runs and
-/// task runs are answered `Bus(Done)`.
-#[derive(Drop)]
-pub enum Answer {
-    Bus(BusAnswer),
-    Reply(Reply),
-}
 
 /// A line of a job.
 #[derive(Drop)]

@@ -2,12 +2,12 @@ ghost use Rattle.std.specs.Prelude.{◌≡◌, ◌+◌, ◌*◌, ◌≤◌, [], 
 ghost use Rattle.arrayvec.specs.ArrayVec.{array_vec_len};
 ghost use Rattle.std.specs.Fmt.{decimal};
 ghost use Rattle.usb_words.specs.Field.{spaced, hex};
-ghost use Rattle.usb_text.specs.declared.line.Answer.TheVariants.{Bus as TheBus, Reply as TheReply};
+ghost use Rattle.device_line.specs.declared.line.Answer.TheVariants.{Bus as TheBus, Reply as TheReply};
 ghost use Rattle.usb_text.specs.Line.{answer_words, answer_text, newline};
 ghost use Rattle.usb_text.specs.Reply.{data_name, bus_words, host_words, reply_words};
 
-use crate::line::Answer;
 use arrayvec::ArrayVec;
+use device_line::Answer;
 use usb_packet::{BusAnswer, Packet, Toggle};
 use usb_pipe::{HostWord, Reply};
 use usb_words::{push_bytes, push_hex, push_number, push_text, push_wide, push_word};

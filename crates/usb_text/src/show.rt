@@ -7,9 +7,10 @@ ghost use Rattle.usb_text.specs.Line.{fate_text, toggle_text, event_words, IsEve
 ghost use Rattle.usb_text.specs.Head.{head_text, IsHead};
 
 use crate::head::HeadLine;
-use crate::line::{DevLine, Line};
+use crate::line::Line;
 use crate::show_call::call_text;
 use arrayvec::ArrayVec;
+use device_line::DevLine;
 use usb_packet::{BusEvent, Packet, Toggle};
 use usb_words::{push_bytes, push_number, push_text, push_word};
 

@@ -3,9 +3,9 @@ ghost use Rattle.std.specs.Fmt.{decimal};
 ghost use Rattle.usb_words.specs.Field.{spaced, hex};
 ghost use Rattle.usb_text.specs.Call.{cdc_words, hid_words, msc_words, midi_words, IsCdcCall, IsHidCall, IsMidiCall, call_text, IsCall};
 
-use crate::call::DevCall;
 use crate::show::text_of;
 use arrayvec::ArrayVec;
+use device_line::DevCall;
 use usb_pipe::{CdcDeviceCall, HidDeviceCall, MidiCall, MscDeviceCall};
 use usb_words::{push_bytes, push_number, push_word};
 

@@ -13,7 +13,7 @@ use Rattle.usb_descriptor.specs.Strings.{string_descriptor}
 use Rattle.usb_descriptor.specs.Set.{Set}
 use Rattle.usb_descriptor.specs.Verdict.{verdict}
 use Rattle.usb_descriptor.specs.declared.limits.SetFault.{SetFault}
-use Rattle.usb_text.specs.declared.line.DevLine.{DevLine}
+use Rattle.device_line.specs.declared.line.DevLine.{DevLine}
 use Rattle.usb_text.specs.declared.head.HeadLine.{HeadLine}
 use Rattle.usb_text.specs.Line.{newline, schedule_text_of, IsDeviceLine}
 use Rattle.usb_text.specs.Plain.{is_plain}

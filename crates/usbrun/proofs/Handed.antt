@@ -7,7 +7,7 @@ use Rattle.std.proofs.Math.Seq.{take-add}
 use Rattle.usb_edge.specs.Stream.{Takes, Rose}
 use Rattle.usb_edge.proofs.Streams.{takes-nothing, takes-more}
 use Rattle.dwc2_regs.specs.declared.access.Access.{Access}
-use Rattle.usb_text.specs.declared.line.Answer.{Answer}
+use Rattle.device_line.specs.declared.line.Answer.{Answer}
 use Rattle.device_schedule.specs.Schedule.{answer_line}
 use Rattle.device_schedule.specs.Trace.{Turn, trace_text}
 use Rattle.device_schedule.proofs.Traces.{trace_text-more, turn_text-parts}

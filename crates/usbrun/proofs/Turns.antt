@@ -6,8 +6,8 @@ use Rattle.usb_edge.specs.Stream.{IsAtEnd}
 use Rattle.line_rules.specs.declared.rules.Mode.TheVariants as mode
 use Rattle.line_rules.specs.declared.rules.Place.TheVariants as place
 use Rattle.line_rules.specs.Rules.{most_line}
-use Rattle.usb_text.specs.declared.line.DevLine.{DevLine}
-use Rattle.usb_text.specs.declared.line.Answer.{Answer}
+use Rattle.device_line.specs.declared.line.DevLine.{DevLine}
+use Rattle.device_line.specs.declared.line.Answer.{Answer}
 use Rattle.usb_text.specs.declared.line.Line.TheVariants.{End}
 use Rattle.usb_text.specs.Line.{newline, line_text, schedule_text_of, IsDeviceLine}
 use Rattle.usb_text.specs.Plain.{is_plain}

@@ -1,7 +1,7 @@
 -- What a run read of its source.
 use Rattle.std.specs.Prelude.{◌≡◌, ℕ, ◌≤◌, List, [], ◌++◌, length, true, Option, Some, None}
 use Rattle.line_rules.specs.Rules.{most_line}
-use Rattle.usb_text.specs.declared.line.DevLine.{DevLine}
+use Rattle.device_line.specs.declared.line.DevLine.{DevLine}
 use Rattle.usb_text.specs.declared.head.HeadLine.{HeadLine}
 use Rattle.usb_text.specs.Plain.{is_plain}
 use Rattle.device_schedule.specs.Job.{IsAccepted, front_text, closed, is_whole, set_fault}

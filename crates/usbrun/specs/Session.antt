@@ -6,7 +6,7 @@ use Rattle.device_table.specs.State.{opened}
 use Rattle.line_rules.specs.declared.rules.Mode.TheVariants as mode
 use Rattle.line_rules.specs.declared.rules.Place.TheVariants as place
 use Rattle.line_rules.specs.Rules.{lowest}
-use Rattle.usb_text.specs.declared.line.DevLine.{DevLine}
+use Rattle.device_line.specs.declared.line.DevLine.{DevLine}
 use Rattle.usb_text.specs.Scheduled.{Scheduled}
 use Rattle.usb_text.specs.declared.line.Line.TheVariants.{Device, End}
 use Rattle.usb_text.specs.Line.{newline, line_text, schedule_text_of, IsScheduled, IsDeviceLine}

@@ -3,7 +3,7 @@ use Rattle.std.specs.Prelude.{◌≡◌, ℕ, List, [], ◌++◌, map, Bool, tru
 use Rattle.std.specs.List.{flat_map}
 use Rattle.dwc2_regs.specs.declared.access.Access.{Access}
 use Rattle.usb_edge.specs.Stream.{Rose}
-use Rattle.usb_text.specs.declared.line.Answer.{Answer}
+use Rattle.device_line.specs.declared.line.Answer.{Answer}
 use Rattle.device_schedule.specs.Schedule.{answer_line}
 use Rattle.device_schedule.specs.Trace.{Turn, register_text, ended, trace_text}
 use Rattle.usbrun.specs.Stream.{Hands, HasRoom}

@@ -1,5 +1,5 @@
 ghost use Rattle.std.specs.Prelude.{◌≡◌, ◌+◌, ◌≤◌, ◌↔◌, [], ◌++◌, false, length, IsTrue};
-ghost use Rattle.usb_text.specs.declared.line.Answer.TheVariants.{Bus, Reply as TheReply};
+ghost use Rattle.device_line.specs.declared.line.Answer.TheVariants.{Bus, Reply as TheReply};
 ghost use Rattle.usbrun.specs.Texts.{shown, Adds, HasRooms, AreEmpty, both, HandsBoth, OneRose};
 
 use crate::writer::Writer;

@@ -1,7 +1,7 @@
 use Rattle.std.proofs.Common.{ap, ◌∙◌, subst}
 use Rattle.usb_packet.specs.declared.bus.BusAnswer.TheVariants.{Done}
-use Rattle.usb_text.specs.declared.line.DevLine.TheVariants.{Task}
-use Rattle.usb_text.specs.declared.line.Answer.TheVariants.{Bus as TheBus}
+use Rattle.device_line.specs.declared.line.DevLine.TheVariants.{Task}
+use Rattle.device_line.specs.declared.line.Answer.TheVariants.{Bus as TheBus}
 use Rattle.device_table.specs.Bank.{begun}
 use Rattle.device_run.specs.Run.{Run, Steps}
 use Rattle.device_run.proofs.Lines.{run_of, task_steps}
