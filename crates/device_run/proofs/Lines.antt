@@ -9,7 +9,7 @@ use Rattle.dwc2_access.specs.Run.{AreSteps, accesses_after}
 use Rattle.device_line.specs.declared.line.DevLine.TheVariants.{Irq, Task}
 use Rattle.device_line.specs.declared.line.Answer.TheVariants.{Bus as TheBus}
 use Rattle.device_machine.specs.Core.{after_irq, after_task}
-use Rattle.device_schedule.specs.Trace.{AreWork}
+use Rattle.device_schedule.specs.Turns.{AreWork}
 use Rattle.dwc2_device.specs.Driver.{GoesOn, stays}
 use Rattle.dwc2_device.proofs.Moved.{moved}
 use Rattle.usbd_core.specs.Device.{Device, core_of}

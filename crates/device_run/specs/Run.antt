@@ -7,7 +7,7 @@ use Rattle.device_line.specs.declared.line.DevLine.{DevLine}
 use Rattle.device_line.specs.declared.line.Answer.{Answer}
 use Rattle.device_machine.specs.Core.{Core}
 use Rattle.device_schedule.specs.Schedule.{core_answer, core_after}
-use Rattle.device_schedule.specs.Trace.{IsTurn, after_turn}
+use Rattle.device_schedule.specs.Turns.{IsTurn, after_turn}
 
 pub record Run : Type 0 where
   -- its descriptors

@@ -3,10 +3,11 @@ ghost use Rattle.usb_descriptor.specs.Set.{IsAccepted};
 ghost use Rattle.dwc2_regs.specs.declared.access.TheConstants.{FS4};
 ghost use Rattle.device_table.specs.State.{opened};
 ghost use Rattle.device_machine.specs.Core.{start};
-ghost use Rattle.device_schedule.specs.Job.{limits};
+ghost use Rattle.usbd_core.specs.Device.{tops};
 ghost use Rattle.std.specs.List.{AllByRecursion};
 ghost use Rattle.register_text.specs.Access.{IsAccess};
 
+use device_line::{Answer, DevCall, DevLine};
 use device_relation::laws::event_fits;
 use dwc2_access::Regs;
 use dwc2_devmodel::DevCore;
@@ -17,7 +18,6 @@ use usb_descriptor::DescSet;
 use usb_edge::Disks;
 use usb_packet::{BusAnswer, BusEvent};
 use usb_pipe::Reply;
-use usb_text::{Answer, DevCall, DevLine};
 use usbd_core::DevStack;
 use usbd_core::laws::bus_keeps;
 
@@ -50,7 +50,7 @@ impl DeviceRun {
     /// opened. `blocks` are those of its disk, where it has one; no class reads one yet. It is `AllocError` only where memory
     /// runs out.
     pub fn open(alloc: Global, set: DescSet, blocks: Option<u32>) -> Result<DeviceRun, AllocError>
-        requires { IsAccepted set limits }
+        requires { IsAccepted set (tops FS4) }
         ensures set { IfOk result (λ run. run.set ≡ set) }
         ensures core { IfOk result (λ run. run.core ≡ start) }
         ensures table { IfOk result (λ run. run.table ≡ opened FS4) }

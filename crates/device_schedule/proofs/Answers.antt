@@ -1,6 +1,5 @@
 -- The answers to one line more, and to a schedule as the core's machine alone gives them.
 use Rattle.std.proofs.Common.{◌≡◌, ℕ, List, [], ◌∷◌, ◌++◌, Bool, true, false, ◌||◌, refl, ap, sym, ◌∙◌, append_assoc, eqb}
-use Rattle.std.specs.List.{flat_map}
 use Rattle.std.proofs.lemmas.List.{append-nil}
 use Rattle.usb_packet.specs.declared.bus.Owner.{Owner}
 use Rattle.usb_packet.specs.declared.bus.Owner.TheVariants as owner
@@ -10,7 +9,7 @@ use Rattle.device_line.specs.declared.line.DevLine.{DevLine}
 use Rattle.device_line.specs.declared.line.DevLine.TheVariants.{Bus, Irq, Task, Call}
 use Rattle.device_line.specs.declared.line.Answer.{Answer}
 use Rattle.device_machine.specs.Core.{Core}
-use Rattle.device_schedule.specs.Schedule.{core_answer, core_after, machine, machine_answer, owner_of, out_address, in_address, sees_packet, sees, part, state_after, core_state, answer_to, answers_after, answers, answer_line, device_text}
+use Rattle.device_schedule.specs.Schedule.{core_answer, core_after, machine, machine_answer, owner_of, out_address, in_address, sees_packet, sees, part, state_after, core_state, answer_to, answers_after, answers}
 
 -- there is one owner yet
 only_core : (o : Owner) → o ≡ owner.Core
@@ -51,7 +50,7 @@ answer_is_core set before line =
     ap (λ o. machine_answer (machine set o) (part set o before) line) (only_core (owner_of set before line))
     ∙ ap (λ ls. core_answer (core_state set ls) line) (core_part set before)
 
-answers_after-more : (set : Set) (before lines : List DevLine) (line : DevLine)
+pub answers_after-more : (set : Set) (before lines : List DevLine) (line : DevLine)
     → answers_after set before (lines ++ line ∷ []) ≡ answers_after set before lines ++ answer_to set (before ++ lines) line ∷ []
 answers_after-more set before [] line = rw (append-nil before) refl
 answers_after-more set before (l ∷ ls) line =
@@ -59,20 +58,8 @@ answers_after-more set before (l ∷ ls) line =
     (answers_after-more set (before ++ l ∷ []) ls line
     ∙ ap (λ b. answers_after set (before ++ l ∷ []) ls ++ answer_to set b line ∷ []) (append_assoc before (l ∷ []) ls))
 
-text-append : (xs ys : List Answer) → flat_map answer_line (xs ++ ys) ≡ flat_map answer_line xs ++ flat_map answer_line ys
-text-append [] ys = refl
-text-append (x ∷ xs) ys = ap (λ t. answer_line x ++ t) (text-append xs ys) ∙ sym (append_assoc (answer_line x) (flat_map answer_line xs) (flat_map answer_line ys))
-
 -- one line more adds its answer
 pub answers-more : (set : Set) (lines : List DevLine) (line : DevLine)
     → answers set (lines ++ line ∷ []) ≡ answers set lines ++ core_answer (core_state set lines) line ∷ []
 answers-more set lines line =
     answers_after-more set [] lines line ∙ ap (λ a. answers set lines ++ a ∷ []) (answer_is_core set lines line)
-
--- and the line of its answer
-pub device_text-more : (set : Set) (lines : List DevLine) (line : DevLine)
-    → device_text set (lines ++ line ∷ []) ≡ device_text set lines ++ answer_line (core_answer (core_state set lines) line)
-device_text-more set lines line =
-    ap (flat_map answer_line) (answers_after-more set [] lines line)
-    ∙ text-append (answers set lines) (answer_to set lines line ∷ [])
-    ∙ ap (λ t. device_text set lines ++ t) (append-nil (answer_line (answer_to set lines line)) ∙ ap answer_line (answer_is_core set lines line))

@@ -1,5 +1,1 @@
 pub mod Answers
-pub mod Traces
-pub mod Told
-pub mod Closed
-pub mod Outcomes

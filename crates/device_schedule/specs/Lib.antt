@@ -1,4 +1,2 @@
 pub mod Schedule
-pub mod Trace
-pub mod Job
-pub mod Outcome
+pub mod Turns

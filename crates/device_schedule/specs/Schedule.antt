@@ -1,6 +1,5 @@
 -- A device's schedule: who owns each line, what part of the schedule each owner sees, and the answers.
 use Rattle.std.specs.Prelude.{ℕ, List, [], ◌∷◌, ◌++◌, Bool, true, false, ◌==◌, ◌||◌, filter, ◌+◌, Option, Some, None, if◌then◌else◌}
-use Rattle.std.specs.List.{flat_map}
 use Rattle.usb_packet.specs.declared.bus.Owner as declared
 use Rattle.usb_packet.specs.declared.bus.Owner.TheVariants as owner
 use Rattle.usb_packet.specs.declared.bus.BusEvent.{BusEvent}
@@ -17,7 +16,6 @@ use Rattle.device_line.specs.declared.call.DevCall.{DevCall}
 use Rattle.device_line.specs.declared.call.DevCall.TheVariants.{State, Cdc, Hid, Msc, Midi}
 use Rattle.device_line.specs.declared.line.Answer.{Answer}
 use Rattle.device_line.specs.declared.line.Answer.TheVariants as answer
-use Rattle.usb_text.specs.Line.{answer_text, newline}
 use Rattle.device_machine.specs.Bus.{bus_answer}
 use Rattle.device_machine.specs.Core.{Core, start, after_bus, after_irq, after_task}
 
@@ -154,10 +152,3 @@ answers_after set before (line ∷ lines) = answer_to set before line ∷ answer
 -- the answers to a whole schedule
 abbrev pub answers : Set → List DevLine → List Answer
 answers set lines = answers_after set [] lines
-
-abbrev pub answer_line : Answer → List ℕ
-answer_line a = answer_text a ++ newline ∷ []
-
--- the text of all answers in order, a line for each
-abbrev pub device_text : Set → List DevLine → List ℕ
-device_text set lines = flat_map answer_line (answers set lines)

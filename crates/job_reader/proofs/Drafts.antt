@@ -9,7 +9,7 @@ use Rattle.usb_descriptor.specs.Strings.{Ascend}
 use Rattle.usb_text.specs.declared.head.HeadLine.{HeadLine}
 use Rattle.usb_text.specs.declared.head.HeadLine.TheVariants as head
 use Rattle.usb_text.specs.Head.{IsHead}
-use Rattle.device_schedule.specs.Job.{Parts, with_line, parts_after, parts_of, nothing, last_after, follows, has_room, in_order, most_strings, GoOn, IsHeadSoFar, ends_head, is_whole as head_is_whole}
+use Rattle.device_text.specs.Job.{Parts, with_line, parts_after, parts_of, nothing, last_after, follows, has_room, in_order, most_strings, GoOn, IsHeadSoFar, ends_head, is_whole as head_is_whole}
 use Rattle.job_reader.specs.Draft.{new_draft, stage_of, accepts, takes_device, takes_config, takes_text, takes_report, takes_begin, with_head, IsDraft, AscendTo, Ascends, rank, is_whole}
 use Rattle.job_reader.specs.declared.draft.Draft.{Draft}
 use Rattle.job_reader.specs.declared.draft.Stage.{Stage}

@@ -5,8 +5,8 @@ use Rattle.usb_edge.specs.Stream.{Reads, IsAtEnd}
 use Rattle.usb_edge.proofs.Streams.{reads-nothing, reads-more}
 use Rattle.usb_text.specs.Line.{newline}
 use Rattle.usb_text.specs.Plain.{is_plain}
-use Rattle.device_schedule.specs.Job.{closed, given}
-use Rattle.device_schedule.proofs.Closed.{closed_plain, closed_line, IsClosed}
+use Rattle.device_text.specs.Job.{closed, given}
+use Rattle.device_text.proofs.Closed.{closed_plain, closed_line, IsClosed}
 use Rattle.job_reader.specs.Stream.{Fills, IsLineBreak, bytes_left}
 use Rattle.job_reader.specs.Lines.{Finds, IsLineAt, Closes, Gone, size_of}
 use Rattle.job_reader.specs.declared.lines.Lines.{Lines}

@@ -13,8 +13,8 @@ use Rattle.usb_text.specs.declared.head.HeadLine.{HeadLine}
 use Rattle.usb_text.specs.Line.{newline}
 use Rattle.usb_text.specs.Head.{head_text, IsHead}
 use Rattle.usb_text.specs.Plain.{is_plain}
-use Rattle.device_schedule.specs.Job.{closed, head_line, head_lines, is_whole}
-use Rattle.device_schedule.proofs.Closed.{closed_heads, begins}
+use Rattle.device_text.specs.Job.{closed, head_line, head_lines, is_whole}
+use Rattle.device_text.proofs.Closed.{closed_heads, begins}
 use Rattle.job_reader.specs.Stream.{bytes_left}
 use Rattle.job_reader.specs.Lines.{Finds, IsLineAt, Gone, IsCut, size_of}
 use Rattle.job_reader.specs.Draft.{new_draft, accepts, with_head, is_whole as is_whole_stage}

@@ -5,7 +5,7 @@ use Rattle.usb_descriptor.specs.declared.strings.StringPart.{StringPart}
 use Rattle.usb_descriptor.specs.Strings.{Ascend}
 use Rattle.usb_text.specs.declared.head.HeadLine.{HeadLine}
 use Rattle.usb_text.specs.declared.head.HeadLine.TheVariants.{Device, Config, Text, Report, Begin}
-use Rattle.device_schedule.specs.Job.{parts_of, last_after, most_strings}
+use Rattle.device_text.specs.Job.{parts_of, last_after, most_strings}
 use Rattle.job_reader.specs.declared.draft.Draft.{Draft}
 use Rattle.job_reader.specs.declared.draft.Stage.{Stage}
 use Rattle.job_reader.specs.declared.draft.Stage.TheVariants as stage

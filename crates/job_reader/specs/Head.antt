@@ -8,7 +8,7 @@ use Rattle.usb_text.specs.declared.head.HeadLine.{HeadLine}
 use Rattle.usb_text.specs.Line.{newline}
 use Rattle.usb_text.specs.Head.{head_text, IsHead}
 use Rattle.usb_text.specs.Plain.{is_plain}
-use Rattle.device_schedule.specs.Job.{head_line, head_lines, closed, IsHeadSoFar, is_whole}
+use Rattle.device_text.specs.Job.{head_line, head_lines, closed, IsHeadSoFar, is_whole}
 use Rattle.job_reader.specs.Stream.{bytes_left}
 use Rattle.job_reader.specs.Lines.{Finds, Gone, IsCut}
 use Rattle.job_reader.specs.Draft.{IsDraft, Ascends, accepts, rank}

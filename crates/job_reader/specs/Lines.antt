@@ -4,7 +4,7 @@ use Rattle.usb_edge.specs.Stream.{Reads, Rose}
 use Rattle.line_rules.specs.Rules.{most_line}
 use Rattle.usb_text.specs.Line.{newline}
 use Rattle.usb_text.specs.Plain.{is_plain}
-use Rattle.device_schedule.specs.Job.{closed}
+use Rattle.device_text.specs.Job.{closed}
 use Rattle.job_reader.specs.declared.lines.Lines.{Lines}
 use Rattle.job_reader.specs.declared.lines.Next as declared
 use Rattle.job_reader.specs.declared.lines.Next.TheVariants.{Line, Nothing, TooLong, ReadFault}

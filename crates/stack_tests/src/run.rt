@@ -1,5 +1,6 @@
 //! Lines of a schedule by the word, with the accesses that the driver makes for them, in its own order.
 use crate::sets::set_of;
+use device_line::{Answer, DevCall, DevLine};
 use device_run::DeviceRun;
 use dwc2_regs::Access;
 use std::alloc::Global;
@@ -7,7 +8,6 @@ use std::process::Abort;
 use usb_edge::FileDisks;
 use usb_packet::{BusAnswer, BusEvent};
 use usb_pipe::Reply;
-use usb_text::{Answer, DevCall, DevLine};
 
 /// One interface without endpoints.
 const CONFIG: &[u8] = b"\x09\x02\x12\x00\x01\x01\x00\x80\x32\x09\x04\x00\x00\x00\xff\x00\x00\x00";

@@ -17,12 +17,13 @@ use Rattle.device_line.specs.declared.line.DevLine.{DevLine}
 use Rattle.usb_text.specs.declared.head.HeadLine.{HeadLine}
 use Rattle.usb_text.specs.Line.{newline, schedule_text_of, IsDeviceLine}
 use Rattle.usb_text.specs.Plain.{is_plain}
-use Rattle.device_schedule.specs.Schedule.{answer_line}
-use Rattle.device_schedule.specs.Trace.{Turn, IsTrace, trace_text}
-use Rattle.device_schedule.specs.Job.{Job, Spells, IsAccepted, IsHeadSoFar, head_lines, schedule_text, front_text, end_line, closed, given, limits, set_fault, parts_of, is_whole, most_bytes}
-use Rattle.device_schedule.specs.Outcome.{Front, Breaks, RefusesLine, RefusesSet, EndsShort, PassesLimit, set_of}
-use Rattle.device_schedule.proofs.Closed.{closed_heads, closed_schedule, closed_both}
-use Rattle.device_schedule.proofs.Traces.{run_left}
+use Rattle.device_text.specs.Answers.{answer_line}
+use Rattle.device_schedule.specs.Turns.{Turn, IsTrace}
+use Rattle.device_text.specs.Trace.{trace_text}
+use Rattle.device_text.specs.Job.{Job, Spells, IsAccepted, IsHeadSoFar, head_lines, schedule_text, front_text, end_line, closed, given, limits, set_fault, parts_of, is_whole, most_bytes}
+use Rattle.device_text.specs.Outcome.{Front, Breaks, RefusesLine, RefusesSet, EndsShort, PassesLimit, set_of}
+use Rattle.device_text.proofs.Closed.{closed_heads, closed_schedule, closed_both}
+use Rattle.device_text.proofs.Traces.{run_left}
 use Rattle.job_reader.specs.Stream.{bytes_left}
 use Rattle.usbrun.specs.Stream.{Hands}
 use Rattle.job_reader.specs.Lines.{Gone, IsCut}

@@ -1,8 +1,8 @@
 -- From the cause of a status to when it comes: a reading has one outcome.
 use Rattle.std.proofs.Common.{◌≡◌, ℕ, List, Bool, true, false, refl, ap, sym, ◌∙◌, subst, length, arith, Option, Some, None, IfSome, inl, inr, ◌⊎◌}
-use Rattle.device_schedule.specs.Job.{Job, Spells}
-use Rattle.device_schedule.specs.Outcome.{Outcome, Whole, BadLine, BadSet, Short, TooLong, IsOutcome}
-use Rattle.device_schedule.proofs.Outcomes.{one_outcome}
+use Rattle.device_text.specs.Job.{Job, Spells}
+use Rattle.device_text.specs.Outcome.{Outcome, Whole, BadLine, BadSet, Short, TooLong, IsOutcome}
+use Rattle.device_text.proofs.Outcomes.{one_outcome}
 use Rattle.usbrun.specs.Written.{Ways, Writes, WritesNothing}
 use Rattle.usbrun.specs.Top.{IsCommand, RunEnds, Ends, Cause, NoneRose, Exact, Completes, outcome_status}
 use Rattle.usbrun.specs.declared.status.Status.{Status}

@@ -8,9 +8,10 @@ use Rattle.usb_edge.specs.Stream.{Takes, Rose}
 use Rattle.usb_edge.proofs.Streams.{takes-nothing, takes-more}
 use Rattle.dwc2_regs.specs.declared.access.Access.{Access}
 use Rattle.device_line.specs.declared.line.Answer.{Answer}
-use Rattle.device_schedule.specs.Schedule.{answer_line}
-use Rattle.device_schedule.specs.Trace.{Turn, trace_text}
-use Rattle.device_schedule.proofs.Traces.{trace_text-more, turn_text-parts}
+use Rattle.device_text.specs.Answers.{answer_line}
+use Rattle.device_schedule.specs.Turns.{Turn}
+use Rattle.device_text.specs.Trace.{trace_text}
+use Rattle.device_text.proofs.Traces.{trace_text-more, turn_text-parts}
 use Rattle.usbrun.specs.Stream.{Hands}
 use Rattle.usbrun.specs.Texts.{Took, HandsTold, HandsBoth, Adds, added, out_part, trace_part, out_text, texts_of, AreEmpty}
 use Rattle.usbrun.specs.declared.texts.Texts.{Texts}

@@ -16,12 +16,12 @@ use Rattle.device_table.specs.State.{Table, opened}
 use Rattle.usb_descriptor.specs.Set.{Set}
 use Rattle.device_machine.specs.Core.{Core, start}
 use Rattle.device_schedule.specs.Schedule.{core_answer, core_after}
-use Rattle.device_schedule.specs.Job.{schedule_line, schedule_text, end_line, closed, given, most_bytes}
-use Rattle.device_schedule.specs.Trace.{Turn, IsTurn, after_turn}
+use Rattle.device_text.specs.Job.{schedule_line, schedule_text, end_line, closed, given, most_bytes}
+use Rattle.device_schedule.specs.Turns.{Turn, IsTurn, after_turn}
 use Rattle.device_schedule.proofs.Answers.{core_state-more}
-use Rattle.device_schedule.proofs.Traces.{after_turns-more, trace-more}
+use Rattle.device_text.proofs.Traces.{after_turns-more, trace-more}
 use Rattle.device_run.specs.Run.{Run, Steps}
-use Rattle.device_schedule.proofs.Closed.{closed_schedule}
+use Rattle.device_text.proofs.Closed.{closed_schedule}
 use Rattle.job_reader.specs.Stream.{bytes_left}
 use Rattle.job_reader.specs.Lines.{Finds, IsLineAt, Gone, IsCut, size_of}
 use Rattle.job_reader.specs.declared.lines.Lines.{Lines}

@@ -4,8 +4,8 @@ use Rattle.line_rules.specs.Rules.{most_line}
 use Rattle.device_line.specs.declared.line.DevLine.{DevLine}
 use Rattle.usb_text.specs.declared.head.HeadLine.{HeadLine}
 use Rattle.usb_text.specs.Plain.{is_plain}
-use Rattle.device_schedule.specs.Job.{IsAccepted, front_text, closed, is_whole, set_fault}
-use Rattle.device_schedule.specs.Outcome.{Front}
+use Rattle.device_text.specs.Job.{IsAccepted, front_text, closed, is_whole, set_fault}
+use Rattle.device_text.specs.Outcome.{Front}
 
 -- what holds of the bytes that a source had: where it tells them, of those; else of some bytes
 abbrev pub Told : Option (List ℕ) → (List ℕ → Type 0) → Type 0

@@ -12,8 +12,8 @@ use Rattle.usb_text.specs.declared.line.Line.TheVariants.{Device, End}
 use Rattle.usb_text.specs.Line.{newline, line_text, schedule_text_of, IsScheduled, IsDeviceLine}
 use Rattle.usb_text.specs.Plain.{is_plain}
 use Rattle.device_schedule.specs.Schedule.{core_answer, core_state}
-use Rattle.device_schedule.specs.Job.{schedule_text, end_line, closed, given, most_bytes}
-use Rattle.device_schedule.specs.Trace.{Turn, after_turns, IsTrace}
+use Rattle.device_text.specs.Job.{schedule_text, end_line, closed, given, most_bytes}
+use Rattle.device_schedule.specs.Turns.{Turn, after_turns, IsTrace}
 use Rattle.device_run.specs.Run.{Steps}
 use Rattle.job_reader.specs.Stream.{bytes_left}
 use Rattle.job_reader.specs.Lines.{Finds, IsNext, Gone, IsCut, size_of}

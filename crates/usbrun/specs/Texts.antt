@@ -4,8 +4,9 @@ use Rattle.std.specs.List.{flat_map}
 use Rattle.dwc2_regs.specs.declared.access.Access.{Access}
 use Rattle.usb_edge.specs.Stream.{Rose}
 use Rattle.device_line.specs.declared.line.Answer.{Answer}
-use Rattle.device_schedule.specs.Schedule.{answer_line}
-use Rattle.device_schedule.specs.Trace.{Turn, register_text, ended, trace_text}
+use Rattle.device_text.specs.Answers.{answer_line}
+use Rattle.device_schedule.specs.Turns.{Turn}
+use Rattle.device_text.specs.Trace.{register_text, ended, trace_text}
 use Rattle.usbrun.specs.Stream.{Hands, HasRoom}
 use Rattle.usbrun.specs.declared.texts.Texts.{Texts}
 

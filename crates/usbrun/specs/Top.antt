@@ -1,9 +1,9 @@
 -- What the program does, by how it ends.
 use Rattle.std.specs.Prelude.{◌≡◌, ℕ, List, [], ◌∷◌, Bool, true, false, Option, Some, None, IfSome, codes, ◌⊎◌}
 use Rattle.usb_edge.specs.Stream.{Rose}
-use Rattle.device_schedule.specs.Job.{Job, Spells}
-use Rattle.device_schedule.specs.Outcome.{RefusesLine, RefusesSet, EndsShort, PassesLimit, Outcome, IsOutcome}
-use Rattle.device_schedule.specs.Outcome as outcome
+use Rattle.device_text.specs.Job.{Job, Spells}
+use Rattle.device_text.specs.Outcome.{RefusesLine, RefusesSet, EndsShort, PassesLimit, Outcome, IsOutcome}
+use Rattle.device_text.specs.Outcome as outcome
 use Rattle.usbrun.specs.Read.{Told, ToldBoth, ReadSoFar, Begins, HasHead}
 use Rattle.usbrun.specs.Texts.{OneRose}
 use Rattle.usbrun.specs.Written.{Ways, Writes, WritesFront, WritesNothing}

@@ -4,9 +4,10 @@ use Rattle.usb_edge.specs.Stream.{Takes}
 use Rattle.usb_descriptor.specs.Set.{Set}
 use Rattle.device_line.specs.declared.line.DevLine.{DevLine}
 use Rattle.usb_text.specs.declared.head.HeadLine.{HeadLine}
-use Rattle.device_schedule.specs.Schedule.{device_text}
-use Rattle.device_schedule.specs.Trace.{Turn, IsTrace, trace_text, without_registers}
-use Rattle.device_schedule.specs.Outcome.{set_of}
+use Rattle.device_text.specs.Answers.{device_text}
+use Rattle.device_schedule.specs.Turns.{Turn, IsTrace}
+use Rattle.device_text.specs.Trace.{trace_text, without_registers}
+use Rattle.device_text.specs.Outcome.{set_of}
 
 -- a run's source and sinks, before and after it
 pub record Ways : Type 0 where

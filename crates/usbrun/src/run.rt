@@ -5,7 +5,7 @@ ghost use Rattle.usb_edge.specs.Stream.{Rose, IsAtEnd};
 ghost use Rattle.device_machine.specs.Core.{start};
 ghost use Rattle.usb_text.specs.Scheduled.{device_line};
 ghost use Rattle.device_schedule.specs.Schedule.{core_answer};
-ghost use Rattle.device_schedule.specs.Job.{most_bytes};
+ghost use Rattle.device_text.specs.Job.{most_bytes};
 ghost use Rattle.device_run.specs.Run.{Steps};
 ghost use Rattle.usbrun.specs.Texts.{Adds, HasRooms, AreEmpty, both, OneRose};
 ghost use Rattle.job_reader.specs.Lines.{IsLineAt};

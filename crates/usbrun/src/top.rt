@@ -2,7 +2,7 @@ ghost use Rattle.std.specs.Prelude.{◌≡◌, ◌≤◌, ◌<◌, ◌+◌, ◌^
 ghost use Rattle.std.specs.Option.{option_map};
 ghost use Rattle.usb_descriptor.specs.Strings.{Ascend, string_descriptor};
 ghost use Rattle.usb_descriptor.specs.Verdict.{verdict};
-ghost use Rattle.device_schedule.specs.Job.{limits};
+ghost use Rattle.device_text.specs.Job.{limits};
 ghost use Rattle.usbrun.specs.Texts.{both, HandsBoth};
 ghost use Rattle.usbrun.specs.Finish.{Finishes, head_status, stop_status};
 ghost use Rattle.usbrun.specs.Status.{Tells};

@@ -2,7 +2,7 @@ ghost use Rattle.std.specs.Prelude.{◌≡◌, ℕ, ◌+◌, ◌*◌, ◌<◌, �
 ghost use Rattle.arrayvec.specs.ArrayVec.{array_vec_len};
 ghost use Rattle.usb_edge.specs.Stream.{Takes, Rose};
 ghost use Rattle.device_line.specs.declared.line.Answer.TheVariants.{Bus, Reply as TheReply};
-ghost use Rattle.device_schedule.specs.Schedule.{answer_line};
+ghost use Rattle.device_text.specs.Answers.{answer_line};
 ghost use Rattle.usbrun.specs.Stream.{Hands, HasRoom};
 ghost use Rattle.usbrun.specs.Texts.{access_lines};
 

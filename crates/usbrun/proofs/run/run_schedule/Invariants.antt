@@ -1,6 +1,6 @@
 use Rattle.std.proofs.Common.{◌≡◌, ◌≤◌, ◌-◌, true}
 use Rattle.usb_edge.specs.Stream.{IsAtEnd}
-use Rattle.device_schedule.specs.Job.{most_bytes}
+use Rattle.device_text.specs.Job.{most_bytes}
 use Rattle.usbrun.specs.Texts.{both}
 use Rattle.usbrun.specs.Session.{Progress}
 use Rattle.usbrun.proofs.run.run_schedule.Given as goal

@@ -22,9 +22,9 @@ use Rattle.usb_text.proofs.Plain.{schedule_is_plain, head_is_plain}
 use Rattle.usb_text.proofs.Spelling.{same_schedule, same_head}
 use Rattle.usb_text.proofs.Heads.{head_again}
 use Rattle.usb_text.proofs.Kept.{text_keeps, head_text_keeps}
-use Rattle.device_schedule.specs.Job.{Job, Spells, GoOn, IsAccepted, last_after, follows, in_order, is_whole, ends_head, set_fault, head_lines, schedule_line, schedule_text, front_text, end_line, given, most_bytes}
-use Rattle.device_schedule.specs.Outcome.{Front, Breaks, RefusesLine, RefusesSet, EndsShort, PassesLimit, Outcome, Whole, BadLine, BadSet, Short, TooLong, IsOutcome}
-use Rattle.device_schedule.proofs.Closed.{cut_line, plain_rest, no_newline}
+use Rattle.device_text.specs.Job.{Job, Spells, GoOn, IsAccepted, last_after, follows, in_order, is_whole, ends_head, set_fault, head_lines, schedule_line, schedule_text, front_text, end_line, given, most_bytes}
+use Rattle.device_text.specs.Outcome.{Front, Breaks, RefusesLine, RefusesSet, EndsShort, PassesLimit, Outcome, Whole, BadLine, BadSet, Short, TooLong, IsOutcome}
+use Rattle.device_text.proofs.Closed.{cut_line, plain_rest, no_newline}
 
 -- the first line of what is left
 abbrev front_line : List ℕ → List ℕ

@@ -13,10 +13,12 @@ use Rattle.usb_text.specs.Line.{answer_text, newline}
 use Rattle.usb_text.specs.Plain.{is_plain}
 use Rattle.usb_text.proofs.Accesses.{is_way, is_side, begins_an_access, answer_begins, access_is_plain}
 use Rattle.usb_text.proofs.Replies.{answer_is_plain}
-use Rattle.device_schedule.specs.Schedule.{core_answer, core_state, answers, answer_line, device_text}
-use Rattle.device_schedule.specs.Trace.{Turn, IsTurn, after_turn, after_turns, AreTurns, IsTrace, register_text, turn_lines, trace_lines, ended, trace_text, turn_text, tells_access, text_lines, without_registers}
+use Rattle.device_schedule.specs.Schedule.{core_answer, core_state, answers}
+use Rattle.device_text.specs.Answers.{answer_line, device_text}
+use Rattle.device_schedule.specs.Turns.{Turn, IsTurn, after_turn, after_turns, AreTurns, IsTrace}
+use Rattle.device_text.specs.Trace.{register_text, turn_lines, trace_lines, ended, trace_text, turn_text, tells_access, text_lines, without_registers}
 use Rattle.device_schedule.proofs.Answers.{answers-more}
-use Rattle.device_schedule.proofs.Closed.{both, plain_first, plain_rest}
+use Rattle.device_text.proofs.Closed.{both, plain_first, plain_rest}
 
 map-more : {A B : Type 0} (f : A → B) (xs : List A) (x : A) → map f (xs ++ x ∷ []) ≡ map f xs ++ f x ∷ []
 map-more f [] x = refl

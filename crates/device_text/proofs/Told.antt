@@ -13,8 +13,9 @@ use Rattle.usb_text.specs.Line.{answer_text}
 use Rattle.register_text.specs.Access.{IsAccess}
 use Rattle.register_text.proofs.Accesses.{access_told}
 use Rattle.usb_text.proofs.Accesses.{access_is_no_answer}
-use Rattle.device_schedule.specs.Trace.{Turn, IsTurn, after_turn, AreTurns, IsTrace, register_text, trace_lines, trace_text, text_lines}
-use Rattle.device_schedule.proofs.Traces.{lines_again, trace_is_plain}
+use Rattle.device_schedule.specs.Turns.{Turn, IsTurn, after_turn, AreTurns, IsTrace}
+use Rattle.device_text.specs.Trace.{register_text, trace_lines, trace_text, text_lines}
+use Rattle.device_text.proofs.Traces.{lines_again, trace_is_plain}
 
 -- the lines of a turn, and what follows them
 lines_told : (xs bs : List Access) (x y : Answer) (us vs : List (List ℕ)) → AllByRecursion IsAccess xs → AllByRecursion IsAccess bs

@@ -1,5 +1,5 @@
-use Rattle.device_schedule.proofs.Traces.{text_left, trace_is_plain}
-use Rattle.device_schedule.proofs.without_register_lines.Goals as goal
+use Rattle.device_text.proofs.Traces.{text_left, trace_is_plain}
+use Rattle.device_text.proofs.without_register_lines.Goals as goal
 
 pub returns-clause-answers : goal.returns-clause-answers
 returns-clause-answers c = text_left

@@ -13,7 +13,7 @@ use Rattle.usb_text.specs.declared.head.HeadLine.{HeadLine}
 use Rattle.usb_text.specs.Line.{newline, schedule_text_of, IsScheduled, IsDeviceLine}
 use Rattle.usb_text.specs.Head.{head_text, IsHead}
 use Rattle.usb_text.specs.Plain.{is_plain}
-use Rattle.device_schedule.specs.Job.{Job, Spells, IsHeadSoFar, IsAccepted, is_whole, in_order, set_fault, parts_of, front_text, closed, given, most_bytes}
+use Rattle.device_text.specs.Job.{Job, Spells, IsHeadSoFar, IsAccepted, is_whole, in_order, set_fault, parts_of, front_text, closed, given, most_bytes}
 
 -- the set of descriptors that a head gives
 abbrev pub set_of : List HeadLine → Set

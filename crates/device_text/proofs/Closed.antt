@@ -9,7 +9,7 @@ use Rattle.usb_text.specs.declared.head.HeadLine.{HeadLine}
 use Rattle.usb_text.specs.Line.{newline, line_text}
 use Rattle.usb_text.specs.Head.{head_text}
 use Rattle.usb_text.specs.Plain.{is_plain}
-use Rattle.device_schedule.specs.Job.{closed, schedule_line, schedule_text, head_line, head_lines}
+use Rattle.device_text.specs.Job.{closed, schedule_line, schedule_text, head_line, head_lines}
 
 pub no_newline : (b : ℕ) (bs : List ℕ) → is_plain (b ∷ bs) ≡ true → b ≡ newline → ⊥
 no_newline b bs h e = let same : eqb b newline ≡ true = eq-eqb b newline e in let x : (not true && is_plain bs) ≡ true = rw same at h in cc

@@ -1,5 +1,0 @@
-use Rattle.device_schedule.proofs.Told.{trace_is_told}
-use Rattle.device_schedule.proofs.trace_is_told.Goals as goal
-
-pub returns : goal.returns
-returns c = trace_is_told

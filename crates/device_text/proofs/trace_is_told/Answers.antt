@@ -1,0 +1,5 @@
+use Rattle.device_text.proofs.Told.{trace_is_told}
+use Rattle.device_text.proofs.trace_is_told.Goals as goal
+
+pub returns : goal.returns
+returns c = trace_is_told

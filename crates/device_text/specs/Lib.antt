@@ -1,0 +1,4 @@
+pub mod Answers
+pub mod Trace
+pub mod Job
+pub mod Outcome
