@@ -1,5 +1,5 @@
 -- What every row of the table of commands keeps.
-use Rattle.std.proofs.Common.{◌≡◌, ◌≢◌, subst, ℕ, length, length-take, ◌+◌, ◌-◌, ◌≤◌, List, [], ◌∷◌, ◌++◌, take, Bool, true, false, nat_lt, nat_eq, if◌then◌else◌, IsTrue, Option, Some, None, unwrap_or, ◌⊎◌, inl, inr, refl, sym, arith, rules}
+use Rattle.std.proofs.Common.{◌≡◌, ◌≢◌, subst, ℕ, length, length-take, ◌+◌, ◌-◌, ◌≤◌, List, [], ◌∷◌, ◌++◌, take, Bool, true, false, nat_lt, nat_eq, IsTrue, Option, unwrap_or, ◌⊎◌, inl, inr, refl, sym, arith, rules}
 use Rattle.std.specs.Prelude.{MatchOption, ⊤}
 use Rattle.std.proofs.lemmas.Bool.{ltb-false, eqb-true}
 use Rattle.byteorder.specs.Endian.{big_bytes}
@@ -8,8 +8,10 @@ use Rattle.scsi_core.specs.declared.Unit.{Unit as Disk}
 use Rattle.scsi_core.specs.declared.Move.{Move}
 use Rattle.scsi_core.specs.declared.Move.TheVariants.{None as Nothing, In, Read, Write, Sync, Fail}
 use Rattle.scsi_core.specs.Sense.{no_sense, is_no_sense, medium_may_have_changed, medium_not_present, address_out_of_range, write_protected, invalid_command, invalid_field, removal_prevented, fixed_format}
-use Rattle.scsi_core.specs.Command.{Outcome, done, failed, worked, IsSound, or_else, told, ready, in_range, writable, byte, bit_0, bit_1, number, start_stop, Row, table, unknown, row_of, by_row, data_move, data_in, inquiry_data, request_sense, told_sense}
-use Rattle.scsi_core.specs.Laws.{IsMovable, sense_left, FailureKeeps, IsAllowed, TellsSense, allocation_length}
+use Rattle.scsi_core.specs.Command.{Outcome, done, failed, worked, IsSound, told, ready, in_range, writable, byte, bit_0, bit_1, number, start_stop, Row, table, unknown, row_of, by_row, data_move, data_in, inquiry_data, request_sense, told_sense}
+use Rattle.scsi_core.specs.Laws.{IsMovable, sense_left, FailureKeeps, IsAllowed, TellsSense, allocation_length, HasCause, Refuses}
+use Rattle.scsi_core.proofs.Choices.{if_holds, or_else_holds, unwrap_or_holds, EachRow}
+use Rattle.scsi_core.proofs.Causes.{chosen, by_row_caused, caused_of, data_has_cause, by_row_refuses}
 
 -- the laws of `command`, as one fact
 pub record KeepsLaws (old : Disk) (cdb : List ℕ) (o : Outcome) : Type 0 where
@@ -20,6 +22,8 @@ pub record KeepsLaws (old : Disk) (cdb : List ℕ) (o : Outcome) : Type 0 where
   pub sense : o.leaves.sense ≡ sense_left o.moves
   pub failure : FailureKeeps old o.leaves o.moves
   pub allowed : IsAllowed (byte 0 cdb) cdb o.moves
+  pub cause : HasCause (byte 0 cdb) old cdb o.moves
+  pub refuses : byte 0 cdb ≢ 3 → Refuses (byte 0 cdb) old o.moves
   pub told : byte 0 cdb ≡ 3 → TellsSense old o.leaves cdb o.moves
   pub attention : byte 0 cdb ≢ 3 → (o.leaves.attention ≡ old.attention) ⊎ (o.moves ≡ Fail medium_may_have_changed)
 
@@ -32,22 +36,6 @@ pub record IsLawful (old : Disk) (o : Outcome) : Type 0 where
   pub sense : o.leaves.sense ≡ sense_left o.moves
   pub keeps : FailureKeeps old o.leaves o.moves
   pub attention : (o.leaves.attention ≡ old.attention) ⊎ (o.moves ≡ Fail medium_may_have_changed)
-
--- a fact that holds of both branches of a choice holds of the choice
-if_holds : {A : Type 0} (P : A → Type 0) (b : Bool) (x y : A) → (b ≡ true → P x) → (b ≡ false → P y) → P (if b then x else y)
-if_holds P true x y h k = h refl
-if_holds P false x y h k = k refl
-
--- questions one after the other: N holds where the first lets pass, and M where both do
-or_else_holds : (P : Outcome → Type 0) (N M : Type 0) (a b : Option Outcome)
-    → MatchOption a N P → (N → MatchOption b M P) → MatchOption (or_else a b) M P
-or_else_holds P N M None b h k = k h
-or_else_holds P N M (Some o) b h k = h
-
-unwrap_or_holds : (P : Outcome → Type 0) (N : Type 0) (a : Option Outcome) (d : Outcome)
-    → MatchOption a N P → (N → P d) → P (unwrap_or a d)
-unwrap_or_holds P N None d h k = k h
-unwrap_or_holds P N (Some o) d h k = h
 
 failed_lawful : (unit : Disk) (s : Sense) → IsSound unit → IsLawful unit (failed s unit)
 failed_lawful unit s h = record {
@@ -165,10 +153,6 @@ start_stop_lawful unit flags h s =
 abbrev Lawful : Disk → List ℕ → Row → Type 0
 Lawful unit cdb r = IsLawful unit (by_row r unit cdb)
 
-abbrev EachRow : (Row → Type 0) → List Row → Type 0
-EachRow P [] = ⊤
-EachRow P (first ∷ rest) = P first × EachRow P rest
-
 row_of_holds : (P : Row → Type 0) (rows : List Row) (code : ℕ) → EachRow P rows → P unknown → P (row_of rows code)
 row_of_holds P [] code h k = k
 row_of_holds P (first ∷ rest) code h k =
@@ -243,32 +227,32 @@ cut_allowed code room cdb bytes h = move_allowed code cdb (take room bytes) (ome
 refused_allowed : (code : ℕ) (cdb : List ℕ) (unit : Disk) (s : Sense) → IsAllowed code cdb (failed s unit).moves
 refused_allowed code cdb unit s = tt
 
-abbrev Refuses : ℕ → List ℕ → Option Outcome → Type 0
-Refuses code cdb o = MatchOption o ⊤ (λ p. IsAllowed code cdb p.moves)
+abbrev GivesNone : ℕ → List ℕ → Option Outcome → Type 0
+GivesNone code cdb o = MatchOption o ⊤ (λ p. IsAllowed code cdb p.moves)
 
-told_refuses : (code : ℕ) (cdb : List ℕ) (unit : Disk) → Refuses code cdb (told unit cdb)
-told_refuses code cdb unit = if_holds (Refuses code cdb) unit.attention _ _ (λ _. tt) (λ _. tt)
+told_refuses : (code : ℕ) (cdb : List ℕ) (unit : Disk) → GivesNone code cdb (told unit cdb)
+told_refuses code cdb unit = if_holds (GivesNone code cdb) unit.attention _ _ (λ _. tt) (λ _. tt)
 
-ready_refuses : (code : ℕ) (cdb : List ℕ) (unit : Disk) → Refuses code cdb (ready unit cdb)
+ready_refuses : (code : ℕ) (cdb : List ℕ) (unit : Disk) → GivesNone code cdb (ready unit cdb)
 ready_refuses code cdb unit =
     or_else_holds (λ p. IsAllowed code cdb p.moves) ⊤ ⊤ (told unit cdb) _ (told_refuses code cdb unit)
-    (λ _. if_holds (Refuses code cdb) unit.present _ _ (λ _. tt) (λ _. tt))
+    (λ _. if_holds (GivesNone code cdb) unit.present _ _ (λ _. tt) (λ _. tt))
 
-in_range_refuses : (code : ℕ) (cdb : List ℕ) (unit : Disk) → Refuses code cdb (in_range unit cdb)
+in_range_refuses : (code : ℕ) (cdb : List ℕ) (unit : Disk) → GivesNone code cdb (in_range unit cdb)
 in_range_refuses code cdb unit =
     or_else_holds (λ p. IsAllowed code cdb p.moves) ⊤ ⊤ (ready unit cdb) _ (ready_refuses code cdb unit)
-    (λ _. if_holds (Refuses code cdb) (nat_lt unit.blocks (number 2 4 cdb + number 7 2 cdb)) _ _ (λ _. tt) (λ _. tt))
+    (λ _. if_holds (GivesNone code cdb) (nat_lt unit.blocks (number 2 4 cdb + number 7 2 cdb)) _ _ (λ _. tt) (λ _. tt))
 
-writable_refuses : (code : ℕ) (cdb : List ℕ) (unit : Disk) → Refuses code cdb (writable unit cdb)
+writable_refuses : (code : ℕ) (cdb : List ℕ) (unit : Disk) → GivesNone code cdb (writable unit cdb)
 writable_refuses code cdb unit =
     or_else_holds (λ p. IsAllowed code cdb p.moves) ⊤ ⊤ (in_range unit cdb) _ (in_range_refuses code cdb unit)
-    (λ _. if_holds (Refuses code cdb) unit.protected _ _ (λ _. tt) (λ _. tt))
+    (λ _. if_holds (GivesNone code cdb) unit.protected _ _ (λ _. tt) (λ _. tt))
 
 -- each row gives no more than its own command's allocation length
 abbrev Allows : Disk → List ℕ → Row → Type 0
 Allows unit cdb r = IsAllowed r.code cdb (by_row r unit cdb).moves
 
-after_asking : (code : ℕ) (cdb : List ℕ) (a : Option Outcome) (o : Outcome) → Refuses code cdb a → IsAllowed code cdb o.moves → IsAllowed code cdb (unwrap_or a o).moves
+after_asking : (code : ℕ) (cdb : List ℕ) (a : Option Outcome) (o : Outcome) → GivesNone code cdb a → IsAllowed code cdb o.moves → IsAllowed code cdb (unwrap_or a o).moves
 after_asking code cdb a o h k = unwrap_or_holds (λ p. IsAllowed code cdb p.moves) ⊤ a o h (λ _. k)
 
 stop_allowed : (code : ℕ) (cdb : List ℕ) (unit : Disk) (flags : ℕ) → IsAllowed code cdb (start_stop unit flags).moves
@@ -315,17 +299,10 @@ rows_allow unit cdb =
       ),
     )
 
--- the row that is chosen for a code is one with that code, or none
-row_of_at : (P : ℕ → Row → Type 0) (rows : List Row) (code : ℕ) → EachRow (λ r. P r.code r) rows → P code unknown → P code (row_of rows code)
-row_of_at P [] code h k = k
-row_of_at P (first ∷ rest) code h k =
-    if_holds (P code) (nat_eq first.code code) first (row_of rest code)
-    (λ e. subst (λ c. P c first) (eqb-true first.code code e) h.0) (λ _. row_of_at P rest code h.1 k)
-
 by_row_allowed : (unit : Disk) (cdb : List ℕ) (code : ℕ) → IsAllowed code cdb (by_row (row_of table code) unit cdb).moves
 by_row_allowed unit cdb code =
-    row_of_at (λ c r. IsAllowed c cdb (by_row r unit cdb).moves) table code (rows_allow unit cdb)
-    (after_asking code cdb (ready unit cdb) _ (ready_refuses code cdb unit) tt)
+    chosen (λ c r. IsAllowed c cdb (by_row r unit cdb).moves) table code (rows_allow unit cdb)
+    (λ _. after_asking code cdb (ready unit cdb) _ (ready_refuses code cdb unit) tt)
 
 -- REQUEST SENSE, by whether a sense is pending
 no_sense_is : (s : Sense) → is_no_sense s ≡ true → s ≡ no_sense
@@ -356,6 +333,8 @@ request_sense_lawful unit cdb h is_3 =
       sense = data_sense (take (byte 4 cdb) (fixed_format (told_sense unit)));
       failure = data_keeps unit (request_sense unit cdb).leaves (take (byte 4 cdb) (fixed_format (told_sense unit)));
       allowed = subst (λ c. IsAllowed c cdb (request_sense unit cdb).moves) (sym is_3) (cut_allowed 0x03 (byte 4 cdb) cdb (fixed_format (told_sense unit)) refl);
+      cause = data_has_cause (byte 0 cdb) unit cdb (take (byte 4 cdb) (fixed_format (told_sense unit)));
+      refuses = λ not_3. absurd (not_3 is_3);
       told = λ _. request_sense_tells unit cdb;
       attention = λ not_3. absurd (not_3 is_3);
     }
@@ -378,6 +357,8 @@ worked_keeps_laws unit cdb h =
       sense = l.sense;
       failure = keeps_of unit o.leaves o.moves l.keeps;
       allowed = by_row_allowed (record unit { sense = no_sense }) cdb (byte 0 cdb);
+      cause = caused_of (byte 0 cdb) unit cdb o.moves (by_row_caused (record unit { sense = no_sense }) cdb (byte 0 cdb));
+      refuses = λ _. let r = by_row_refuses (record unit { sense = no_sense }) cdb (byte 0 cdb) in record { changed = r.changed; absent = r.absent };
       told = λ is_3. absurd (other_code (byte 0 cdb) not_sense is_3);
       attention = λ _. l.attention;
     })

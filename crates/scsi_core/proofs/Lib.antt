@@ -1,1 +1,3 @@
-pub mod CommandLemmas
+mod Choices
+mod Causes
+mod CommandLemmas

@@ -1,11 +1,12 @@
 -- What holds of every command, whatever its code.
-use Rattle.std.specs.Prelude.{◌≡◌, ◌≢◌, ℕ, ◌+◌, ◌/◌, ◌<◌, ◌≤◌, ◌==◌, if◌then◌else◌, ⊤, true, false, IsTrue, List, length}
+use Rattle.std.specs.Prelude.{◌≡◌, ◌≢◌, ℕ, ◌+◌, ◌/◌, ◌<◌, ◌≤◌, ◌==◌, if◌then◌else◌, ⊤, true, false, IsTrue, List, [], ◌∷◌, length, ◌⊎◌}
+use Rattle.std.specs.List.{list_any}
 use Rattle.scsi_core.specs.declared.Sense.{Sense}
 use Rattle.scsi_core.specs.declared.Unit.{Unit as Disk}
 use Rattle.scsi_core.specs.declared.Move.{Move}
 use Rattle.scsi_core.specs.declared.Move.TheVariants.{None as Nothing, In, Read, Write, Sync, Fail}
-use Rattle.scsi_core.specs.Sense.{no_sense, medium_may_have_changed, fixed_format}
-use Rattle.scsi_core.specs.Command.{byte, number, data_in}
+use Rattle.scsi_core.specs.Sense.{no_sense, medium_may_have_changed, medium_not_present, address_out_of_range, write_protected, invalid_command, invalid_field, removal_prevented, fixed_format}
+use Rattle.scsi_core.specs.Command.{byte, bit_0, bit_1, number, data_in}
 
 -- what is to be moved is there to be moved: data has a byte at least, and blocks to be read or written are
 -- one at least, lie on a medium that is present, and if written then one that is not protected
@@ -65,3 +66,44 @@ pub record TellsSense (old new : Disk) (cdb : List ℕ) (moves : Move) : Type 0 
   pub nothing :
       old.sense ≡ no_sense → old.attention ≡ false →
       (moves ≡ data_in (fixed_format no_sense) (byte 4 cdb)) × (new.attention ≡ false)
+
+-- the operation codes that are served, but for REQUEST SENSE
+abbrev pub served_codes : List ℕ
+served_codes = 0x00 ∷ 0x12 ∷ 0x1a ∷ 0x1b ∷ 0x1e ∷ 0x23 ∷ 0x25 ∷ 0x28 ∷ 0x2a ∷ 0x2f ∷ 0x35 ∷ []
+
+-- why a command with this code fails with a sense. A change of the medium is told first, and then its absence; then come the
+-- range of blocks, the protection, and what is wrong with the command block itself
+pub data Cause (code : ℕ) (unit : Disk) (cdb : List ℕ) : Sense → Type 0 where
+  changed : unit.attention ≡ true → Cause code unit cdb medium_may_have_changed
+  absent : unit.attention ≡ false → unit.present ≡ false → Cause code unit cdb medium_not_present
+  past :
+      (code ≡ 0x28) ⊎ ((code ≡ 0x2a) ⊎ (code ≡ 0x2f)) → unit.attention ≡ false → unit.present ≡ true →
+      unit.blocks < number 2 4 cdb + number 7 2 cdb → Cause code unit cdb address_out_of_range
+  protected :
+      code ≡ 0x2a → unit.attention ≡ false → unit.present ≡ true → number 2 4 cdb + number 7 2 cdb ≤ unit.blocks →
+      unit.protected ≡ true → Cause code unit cdb write_protected
+  pages : code ≡ 0x12 → bit_0 1 cdb ≡ true → Cause code unit cdb invalid_field
+  comparison :
+      code ≡ 0x2f → unit.attention ≡ false → unit.present ≡ true → number 2 4 cdb + number 7 2 cdb ≤ unit.blocks →
+      bit_1 1 cdb ≡ true → Cause code unit cdb invalid_field
+  prevented : code ≡ 0x1b → unit.attention ≡ false → byte 4 cdb ≡ 2 → unit.prevented ≡ true → Cause code unit cdb removal_prevented
+  unknown :
+      list_any (λ c. c == code) served_codes ≡ false → unit.attention ≡ false → unit.present ≡ true →
+      Cause code unit cdb invalid_command
+
+-- a command that fails has a cause
+abbrev pub HasCause : ℕ → Disk → List ℕ → Move → Type 0
+HasCause code unit cdb (Fail sense) = Cause code unit cdb sense
+HasCause code unit cdb Nothing = ⊤
+HasCause code unit cdb (In bytes) = ⊤
+HasCause code unit cdb (Read lba count) = ⊤
+HasCause code unit cdb (Write lba count) = ⊤
+HasCause code unit cdb Sync = ⊤
+
+-- what every command but INQUIRY and REQUEST SENSE has to tell: a change of the medium and, but for those that move it, its
+-- absence
+pub record Refuses (code : ℕ) (unit : Disk) (moves : Move) : Type 0 where
+  pub changed : code ≢ 0x12 → unit.attention ≡ true → moves ≡ Fail medium_may_have_changed
+  pub absent :
+      code ≢ 0x12 → code ≢ 0x1b → code ≢ 0x1e → unit.attention ≡ false → unit.present ≡ false →
+      moves ≡ Fail medium_not_present

@@ -14,7 +14,7 @@ mod work;
 
 ghost use Rattle.std.specs.Prelude.{◌≡◌, ◌≢◌, ◌⊎◌, slice_index};
 ghost use Rattle.scsi_core.specs.Command.{worked, IsSound};
-ghost use Rattle.scsi_core.specs.Laws.{IsMovable, sense_left, FailureKeeps, IsAllowed, TellsSense};
+ghost use Rattle.scsi_core.specs.Laws.{IsMovable, sense_left, FailureKeeps, IsAllowed, TellsSense, HasCause, Refuses};
 ghost use Rattle.scsi_core.specs.Sense.{fixed_format, medium_may_have_changed};
 
 use arrayvec::ArrayVec;
@@ -73,6 +73,10 @@ pub fn command(unit: &mut Unit, cdb: &[u8; 16]) -> Move
     ensures movable { IsMovable unit.old result }
     ensures sense { unit.new.sense ≡ sense_left result }
     ensures failure { FailureKeeps unit.old unit.new result }
+
+    // A failure has its own cause, and comes in its turn: the medium's change, its absence, the range, the protection.
+    ensures cause { HasCause (slice_index cdb.now 0) unit.old cdb.now result }
+    ensures refuses { slice_index cdb.now 0 ≢ 3 → Refuses (slice_index cdb.now 0) unit.old result }
 
     // Data for the host is no more than it has room for.
     ensures allowed { IsAllowed (slice_index cdb.now 0) cdb.now result }

@@ -16,6 +16,8 @@ returns c =
       sense = l.sense;
       failure = l.failure;
       allowed = l.allowed;
+      cause = l.cause;
+      refuses = l.refuses;
       told = l.told;
       attention = l.attention;
     }
