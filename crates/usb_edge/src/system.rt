@@ -1,5 +1,5 @@
 ghost use Rattle.std.specs.Prelude.{◌≡◌, ℕ, ◌<◌, ◌≤◌, length, take};
-ghost use Rattle.std.specs.Io.KnownBytes.{Consumes, Appends, IsAtEnd};
+ghost use Rattle.std.specs.Io.KnownBytes.{Consumes, Appends, Keeps, IsAtEnd};
 ghost use Rattle.usb_edge.specs.Stream.{Rose, last_count};
 ghost use Rattle.usb_edge.specs.Outcome.{IfGot, IfWrote};
 ghost use Rattle.usb_edge.specs.System.{got_of, wrote_of, faults_at_read, faults_at_write};
@@ -12,7 +12,7 @@ pub fn read_from<R: Read>(from: &mut R, buf: &mut [u8], faults: &mut u64) -> Got
     requires { 0 < length buf.old }
     ensures bytes { IfGot result (λ n. (0 < n) × (n ≤ length buf.old) × Consumes (R.remaining from.old) (R.remaining from.new) (take n buf.new)) }
     ensures end { result ≡ Got.End → IsAtEnd (R.remaining from.new) }
-    ensures failed { result ≡ Got.Failed → Rose faults.old faults.new }
+    ensures failed { result ≡ Got.Failed → Rose faults.old faults.new × Keeps (R.remaining from.old) (R.remaining from.new) }
     ensures count { faults.old ≤ faults.new }
     ensures last { faults.new ≤ last_count }
 {
