@@ -37,8 +37,9 @@ pub record WorkedLengths : Type 0 where
   pub mouse_is : Gives mouse (lengths 0 3 0 0 ∷ [])
   -- nine bits take two bytes
   pub rounded : Gives (0x75 ∷ 9 ∷ 0x95 ∷ 1 ∷ 0x81 ∷ 2 ∷ []) (lengths 0 2 0 0 ∷ [])
-  -- a count in four bytes, and one in two, the lowest byte first
-  pub four : Gives (0x97 ∷ 8 ∷ 0 ∷ 0 ∷ 0 ∷ 0x76 ∷ 1 ∷ 0 ∷ 0xb1 ∷ 2 ∷ []) (lengths 0 0 0 1 ∷ [])
+  -- a maximum in four bytes, of which the last would end a collection; a count in four bytes and a size in two, the lowest first
+  pub four :
+      Gives (0x27 ∷ 0 ∷ 0 ∷ 0 ∷ 0xc0 ∷ 0x97 ∷ 8 ∷ 0 ∷ 0 ∷ 0 ∷ 0x76 ∷ 1 ∷ 0 ∷ 0xb1 ∷ 2 ∷ []) (lengths 0 0 0 1 ∷ [])
   -- the ids in the order of their first fields, each with what its own fields add up to
   pub two_ids :
       Gives
