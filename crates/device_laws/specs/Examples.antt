@@ -11,6 +11,11 @@ use Rattle.device_line.specs.declared.line.DevLine.TheVariants.{Bus, Irq, Task, 
 use Rattle.device_line.specs.declared.call.DevCall.TheVariants.{State}
 use Rattle.device_line.specs.declared.line.Answer.{Answer}
 use Rattle.device_line.specs.declared.line.Answer.TheVariants as answer
+use Rattle.std.specs.List.{list_all, list_any}
+use Rattle.usb_control.specs.declared.state.Effect.TheVariants as effect
+use Rattle.usb_control.specs.Table.{is_at}
+use Rattle.device_machine.specs.Packets.{numbers_from}
+use Rattle.device_machine.specs.Session.{halted_after}
 use Rattle.device_schedule.specs.Schedule.{answers as schedule_answers}
 use Rattle.device_laws.specs.Reading.{IsRead}
 
@@ -26,17 +31,23 @@ plain = record {
   report = None;
 }
 
--- a configuration of 64 bytes with the number 3 and its own power: an interface with the interrupt endpoint 81 and a
--- descriptor of 39 bytes of its own
+-- a configuration of 64 bytes with the number 3 and its own power: interface 0 with the interrupt endpoint 81, and interface
+-- 1 with the bulk endpoint 0f of 16 bytes and a descriptor of 23 bytes of its own
 abbrev pub full_config : List ℕ
 full_config =
-    0x09 ∷ 0x02 ∷ 0x40 ∷ 0x00 ∷ 0x01 ∷ 0x03 ∷ 0x00 ∷ 0xc0 ∷ 0x32 ∷ 0x09 ∷ 0x04 ∷ 0x00 ∷ 0x00 ∷ 0x01 ∷ 0xff ∷ 0x00 ∷ 0x00 ∷ 0x00
-    ∷ 0x07 ∷ 0x05 ∷ 0x81 ∷ 0x03 ∷ 0x08 ∷ 0x00 ∷ 0x0a
-    ∷ 0x27 ∷ 0x24 ∷ 3 ∷ 4 ∷ 5 ∷ 6 ∷ 7 ∷ 8 ∷ 9 ∷ 10 ∷ 11 ∷ 12 ∷ 13 ∷ 14 ∷ 15 ∷ 16 ∷ 17 ∷ 18 ∷ 19 ∷ 20 ∷ 21 ∷ 22 ∷ 23 ∷ 24 ∷ 25 ∷ 26 ∷ 27
-    ∷ 28 ∷ 29 ∷ 30 ∷ 31 ∷ 32 ∷ 33 ∷ 34 ∷ 35 ∷ 36 ∷ 37 ∷ 38 ∷ 39 ∷ []
+    0x09 ∷ 0x02 ∷ 0x40 ∷ 0x00 ∷ 0x02 ∷ 0x03 ∷ 0x00 ∷ 0xc0 ∷ 0x32 ∷ 0x09 ∷ 0x04 ∷ 0x00 ∷ 0x00 ∷ 0x01 ∷ 0xff ∷ 0x00 ∷ 0x00 ∷ 0x00
+    ∷ 0x07 ∷ 0x05 ∷ 0x81 ∷ 0x03 ∷ 0x08 ∷ 0x00 ∷ 0x0a ∷ 0x09 ∷ 0x04 ∷ 0x01 ∷ 0x00 ∷ 0x01 ∷ 0xff ∷ 0x00 ∷ 0x00 ∷ 0x00
+    ∷ 0x07 ∷ 0x05 ∷ 0x0f ∷ 0x02 ∷ 0x10 ∷ 0x00 ∷ 0x00
+    ∷ 0x17 ∷ 0x24 ∷ 3 ∷ 4 ∷ 5 ∷ 6 ∷ 7 ∷ 8 ∷ 9 ∷ 10 ∷ 11 ∷ 12 ∷ 13 ∷ 14 ∷ 15 ∷ 16 ∷ 17 ∷ 18 ∷ 19 ∷ 20 ∷ 21 ∷ 22 ∷ 23 ∷ []
 
+-- with string 1, the letter A
 abbrev pub powered : Set
-powered = record { device = device; config = full_config; strings = []; report = None }
+powered = record {
+  device = device;
+  config = full_config;
+  strings = record { index = 1; bytes = record { items = 4 ∷ 3 ∷ 0x41 ∷ 0 ∷ [] } } ∷ [];
+  report = None;
+}
 
 -- a line of a schedule, and its answer
 abbrev pub Turns : Type 0
@@ -76,6 +87,13 @@ in_token addr acknowledged = Bus (event.In addr 0 acknowledged)
 abbrev pub out_packet : ℕ → Toggle → List ℕ → DevLine
 out_packet addr toggle bytes = Bus (event.Out addr 0 toggle bytes true)
 
+-- and on others
+abbrev pub other_in : ℕ → DevLine
+other_in ep = Bus (event.In 0 ep true)
+
+abbrev pub other_out : ℕ → List ℕ → DevLine
+other_out ep bytes = Bus (event.Out 0 ep D0 bytes true)
+
 -- a reset that a handler run serves
 abbrev pub reset : Turns
 reset = (Bus event.Reset, done) ∷ (Irq, done) ∷ []
@@ -114,6 +132,10 @@ get_device = 0x80 ∷ 6 ∷ 0 ∷ 1 ∷ 0 ∷ 0 ∷ 18 ∷ 0 ∷ []
 abbrev pub get_config : ℕ → List ℕ
 get_config length = 0x80 ∷ 6 ∷ 0 ∷ 2 ∷ 0 ∷ 0 ∷ length ∷ 0 ∷ []
 
+-- GET_DESCRIPTOR of a type and an index
+abbrev pub get_descriptor : ℕ → ℕ → List ℕ
+get_descriptor kind index = 0x80 ∷ 6 ∷ index ∷ kind ∷ 0 ∷ 0 ∷ 255 ∷ 0 ∷ []
+
 abbrev pub get_string : ℕ → List ℕ
 get_string n = 0x80 ∷ 6 ∷ n ∷ 3 ∷ 9 ∷ 4 ∷ 255 ∷ 0 ∷ []
 
@@ -138,8 +160,12 @@ set_halt ep = 2 ∷ 3 ∷ 0 ∷ 0 ∷ ep ∷ 0 ∷ 0 ∷ 0 ∷ []
 abbrev pub clear_halt : ℕ → List ℕ
 clear_halt ep = 2 ∷ 1 ∷ 0 ∷ 0 ∷ ep ∷ 0 ∷ 0 ∷ 0 ∷ []
 
-abbrev pub set_interface : List ℕ
-set_interface = 1 ∷ 0x0b ∷ 0 ∷ 0 ∷ 0 ∷ 0 ∷ 0 ∷ 0 ∷ []
+abbrev pub get_interface_status : ℕ → List ℕ
+get_interface_status n = 0x81 ∷ 0 ∷ 0 ∷ 0 ∷ n ∷ 0 ∷ 2 ∷ 0 ∷ []
+
+-- SET_INTERFACE of an interface to an alternate setting
+abbrev pub set_interface : ℕ → ℕ → List ℕ
+set_interface n setting = 1 ∷ 0x0b ∷ setting ∷ 0 ∷ n ∷ 0 ∷ 0 ∷ 0 ∷ []
 
 abbrev pub get_interface : List ℕ
 get_interface = 0x81 ∷ 0x0a ∷ 0 ∷ 0 ∷ 0 ∷ 0 ∷ 1 ∷ 0 ∷ []
@@ -162,6 +188,10 @@ pub record Reads : Type 0 where
       (reset ++ asked get_device
       ++ (in_token 0 false, data1 device) ∷ (Irq, done) ∷ (in_token 0 false, data1 device) ∷ (in_token 0 true, data1 device)
       ∷ (in_token 0 true, nak) ∷ [])
+  -- a status packet with DATA0 isn't new: it is acknowledged and dropped
+  pub wrong_toggle : IsAnswered plain
+      (reset ++ asked get_device ++ (in_token 0 true, data1 device) ∷ (out_packet 0 D0 [], ack) ∷ (out_packet 0 D0 [], ack) ∷ (out_packet 0 D1 [], ack)
+      ∷ (out_packet 0 D0 [], nak) ∷ [])
   -- nothing is ready before a handler run, a task and the next handler run
   pub later : IsAnswered plain
       (reset ++ (setup 0 get_device, ack) ∷ (in_token 0 true, nak) ∷ (Irq, done) ∷ (in_token 0 true, nak) ∷ (Task, done) ∷ (in_token 0 true, nak)
@@ -183,6 +213,18 @@ pub record Setups : Type 0 where
   pub fourth : IsAnswered plain
       (reset ++ (setup 0 get_device, ack) ∷ (setup 0 get_device, ack) ∷ (setup 0 get_device, ack) ∷ (setup 0 get_device, none)
       ∷ (Irq, done) ∷ (setup 0 get_device, ack) ∷ [])
+  -- of these the last is served, and one that a handler run served ends one that waited for a task
+  pub last : IsAnswered plain
+      (reset ++ (setup 0 get_status, ack) ∷ (setup 0 get_device, ack) ∷ served ++ (in_token 0 true, data1 device) ∷ [])
+  pub instead : IsAnswered plain
+      (reset ++ (setup 0 get_status, ack) ∷ (Irq, done) ∷ (setup 0 get_device, ack) ∷ served ++ (in_token 0 true, data1 device) ∷ [])
+  -- one that comes right after a packet of an older transfer begins with its own first packet
+  pub behind : IsAnswered powered
+      (reset ++ asked (get_config 255) ++ (in_token 0 true, data1 full_config) ∷ (setup 0 (get_config 64), ack) ∷ served
+      ++ (in_token 0 true, data1 full_config) ∷ [])
+  -- a packet of the host that was taken belongs to its own transfer
+  pub untaken : IsAnswered plain
+      (reset ++ read get_device device ++ (out_packet 0 D1 [], ack) ∷ (setup 0 get_device, ack) ∷ (Irq, done) ∷ (out_packet 0 D1 [], nak) ∷ [])
   -- one that is damaged or has another address isn't
   pub unheard : IsAnswered plain (reset ++ (Bus (event.Setup 0 get_device false), none) ∷ (setup 1 get_device, none) ∷ [])
   -- nothing is answered before the first reset was served, whatever runs
@@ -205,6 +247,10 @@ pub record Addresses : Type 0 where
       (reset ++ asked (set_address 5)
       ++ (in_token 0 false, data1 []) ∷ (Irq, done) ∷ (in_token 5 true, none) ∷ (in_token 0 true, data1 []) ∷ (in_token 5 true, none) ∷ state 0 0
       ++ (Irq, done) ∷ (in_token 0 true, none) ∷ (in_token 5 true, nak) ∷ state 5 0)
+  -- a SETUP before that handler run waits for the next one
+  pub waiting : IsAnswered plain
+      (reset ++ asked (set_address 5) ++ (in_token 0 true, data1 []) ∷ (setup 0 get_device, ack) ∷ served ++ (in_token 5 true, nak) ∷ worked
+      ++ (Irq, done) ∷ (in_token 5 true, data1 device) ∷ [])
   pub greatest : IsAnswered plain (reset ++ passed (set_address 127) ++ state 127 0)
   pub too_great : IsAnswered plain (reset ++ refused (set_address 128) ++ state 0 0)
   -- a reset takes it back
@@ -235,9 +281,31 @@ pub record Sessions : Type 0 where
   pub fresh : IsAnswered powered
       (reset ++ passed (set_configuration 3) ++ passed (set_halt 0x81) ++ passed (set_configuration 3) ++ read (get_endpoint_status 0x81) (0 ∷ 0 ∷ []))
   pub set_again : IsAnswered powered
-      (reset ++ passed (set_configuration 3) ++ passed (set_halt 0x81) ++ passed set_interface ++ read (get_endpoint_status 0x81) (0 ∷ 0 ∷ []))
+      (reset ++ passed (set_configuration 3) ++ passed (set_halt 0x81) ++ passed (set_interface 0 0) ++ read (get_endpoint_status 0x81) (0 ∷ 0 ∷ []))
   -- an interface has the one setting 0, in a session
   pub setting : IsAnswered powered (reset ++ refused get_interface ++ passed (set_configuration 3) ++ read get_interface (0 ∷ []))
-  -- endpoints other than 0 answer in a session alone
+  -- halts of other endpoints and of other interfaces stay
+  pub halts : IsAnswered powered
+      (reset ++ passed (set_configuration 3) ++ passed (set_halt 0x81) ++ passed (set_halt 0x0f) ++ read (get_endpoint_status 0x81) (1 ∷ 0 ∷ [])
+      ++ read (get_endpoint_status 0x0f) (1 ∷ 0 ∷ []) ++ passed (clear_halt 0x81) ++ read (get_endpoint_status 0x81) (0 ∷ 0 ∷ [])
+      ++ read (get_endpoint_status 0x0f) (1 ∷ 0 ∷ []) ++ passed (set_interface 0 0) ++ read (get_endpoint_status 0x0f) (1 ∷ 0 ∷ [])
+      ++ passed (set_interface 1 0) ++ read (get_endpoint_status 0x0f) (0 ∷ 0 ∷ []))
+  -- every endpoint can be halted: numbers 1 to 15 in each direction (9.6.6)
+  pub each_halt : list_all (λ a. list_any (is_at a) (halted_after plain [] (effect.Halt a))) (numbers_from 1 15 ++ numbers_from 129 15) ≡ true
+  -- an interface's status is 0, in a session
+  pub interface : IsAnswered powered
+      (reset ++ refused (get_interface_status 0) ++ passed (set_configuration 3) ++ read (get_interface_status 1) (0 ∷ 0 ∷ [])
+      ++ refused (get_interface_status 2))
+  -- what there isn't is refused: other descriptors, endpoints, settings, features, and requests of a class
+  pub strings : IsAnswered powered (reset ++ read (get_string 0) (4 ∷ 3 ∷ 9 ∷ 4 ∷ []) ++ read (get_string 1) (4 ∷ 3 ∷ 0x41 ∷ 0 ∷ []) ++ refused (get_string 2))
+  pub descriptors : IsAnswered powered (reset ++ refused (get_descriptor 1 1) ++ refused (get_descriptor 2 1) ++ refused (get_descriptor 6 0))
+  pub endpoints : IsAnswered powered (reset ++ passed (set_configuration 3) ++ refused (get_endpoint_status 0x01) ++ refused (set_halt 0x8f))
+  pub settings : IsAnswered powered (reset ++ passed (set_configuration 3) ++ refused (set_interface 0 1) ++ refused (set_interface 2 0))
+  pub features : IsAnswered powered
+      (reset ++ passed (set_configuration 3) ++ refused (2 ∷ 3 ∷ 1 ∷ 0 ∷ 0x81 ∷ 0 ∷ 0 ∷ 0 ∷ []) ++ refused (0 ∷ 3 ∷ 1 ∷ 0 ∷ 0 ∷ 0 ∷ 0 ∷ 0 ∷ []))
+  pub classes : IsAnswered powered (reset ++ passed (set_configuration 3) ++ refused (0x21 ∷ 0x20 ∷ 0 ∷ 0 ∷ 0 ∷ 0 ∷ 7 ∷ 0 ∷ []))
+  -- endpoints other than 0 answer in a session alone, each in its direction, and none to a packet that is too long for it
   pub endpoint : IsAnswered powered
-      (reset ++ (Bus (event.In 0 1 true), none) ∷ passed (set_configuration 3) ++ (Bus (event.In 0 1 true), nak) ∷ (Bus (event.In 0 2 true), none) ∷ [])
+      (reset ++ (other_in 1, none) ∷ (other_out 15 (numbers_from 0 16), none) ∷ passed (set_configuration 3) ++ (other_in 1, nak) ∷ (other_in 2, none)
+      ∷ (other_in 15, none) ∷ (other_out 15 (numbers_from 0 16), nak) ∷ (other_out 15 (numbers_from 0 17), none) ∷ (other_out 1 [], none)
+      ∷ (Bus (event.Out 0 15 D0 [] false), none) ∷ [])
