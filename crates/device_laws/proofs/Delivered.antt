@@ -86,22 +86,22 @@ steps_read set setup bytes packets core host (Work ∷ steps) e some h =
     steps_read set setup bytes packets (core_after set core (line_of Work)) host steps e some (task_step set setup bytes packets core host e some h)
 
 -- where the SETUP was acknowledged
-acknowledged : (b : Bool) → (if b then answers.Ack else answers.NoAnswer) ≡ answers.Ack → b ≡ true
+pub acknowledged : (b : Bool) → (if b then answers.Ack else answers.NoAnswer) ≡ answers.Ack → b ≡ true
 acknowledged true e = refl
 acknowledged false e = absurd (cc)
 
-first_true : (a b : Bool) → (a && b) ≡ true → a ≡ true
+pub first_true : (a b : Bool) → (a && b) ≡ true → a ≡ true
 first_true true b e = refl
 first_true false b e = absurd (cc)
 
-no_reset : (awake reset : Bool) (attention : Attention) → Attends awake reset attention → awake ≡ true → reset ≡ false
+pub no_reset : (awake reset : Bool) (attention : Attention) → Attends awake reset attention → awake ≡ true → reset ≡ false
 no_reset awake false attention a e = refl
 no_reset false true attention a e = absurd (cc)
 no_reset true true Deaf a e = absurd a
 no_reset true true Waiting a e = absurd a
 no_reset true true Listening a e = absurd a
 
-none_noted : (request : Option (List ℕ)) → is_some request ≡ false → request ≡ None
+pub none_noted : (request : Option (List ℕ)) → is_some request ≡ false → request ≡ None
 none_noted None e = refl
 none_noted (Some bytes) e = absurd (cc)
 

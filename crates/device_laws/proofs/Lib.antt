@@ -7,3 +7,4 @@ pub mod Seen
 pub mod Progress
 pub mod Delivery
 pub mod Delivered
+pub mod Ended

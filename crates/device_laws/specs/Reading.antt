@@ -144,3 +144,14 @@ abbrev pub ReadsAreDelivered : Type 0
 ReadsAreDelivered = (set : Set) (lines : List DevLine) (addr : ℕ) (setup bytes : List ℕ) → IsRead set lines addr setup bytes → (steps : List Step)
     → IsDelivered bytes (fields_of setup).length (core_steps set (asked_core set lines addr setup) steps)
     (host_after set (asked_core set lines addr setup) at_setup steps)
+
+-- a handler run, a task run, a handler run and a token whose data and acknowledgement come through, so many times
+abbrev pub rounds : ℕ → ℕ → List Step
+rounds addr zero = []
+rounds addr (suc n) = Handler ∷ Work ∷ Handler ∷ Token addr Whole ∷ rounds addr n
+
+-- and the device doesn't answer NAK for ever: after as many of these as there are packets the host has them all
+abbrev pub ReadsEnd : Type 0
+ReadsEnd = (set : Set) (lines : List DevLine) (addr : ℕ) (setup bytes : List ℕ) → IsRead set lines addr setup bytes
+    → (host_after set (asked_core set lines addr setup) at_setup (rounds addr (length (data_packets bytes (fields_of setup).length)))).took
+    ≡ data_packets bytes (fields_of setup).length

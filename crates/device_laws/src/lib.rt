@@ -11,7 +11,7 @@ ghost use Rattle.device_laws.specs.Stages.{DataStages, HasPacket};
 ghost use Rattle.device_laws.specs.Requests.{all_differ, Each, IsDone, Directions};
 ghost use Rattle.device_laws.specs.Examples.{PlainIsRead, Reads, Setups, Addresses, Sessions};
 ghost use Rattle.device_laws.specs.Seen.{AddressIsSeen, SetupIsHeard, OthersAreIgnored, BusyAnswersNak};
-ghost use Rattle.device_laws.specs.Reading.{ReadsAreDelivered};
+ghost use Rattle.device_laws.specs.Reading.{ReadsAreDelivered, ReadsEnd};
 
 /// The packets of a data stage for the host: joined they are the data, cut to what the host asks for; each but the last has
 /// 64 bytes; the last is shorter, or the host has all that it asked for; and it is empty only where the host asked for more
@@ -58,10 +58,12 @@ pub fn setups_are_heard()
 /// A control read over every order of IN tokens, handler runs and task runs behind its SETUP, whatever data and whatever
 /// acknowledgements are lost. What the host took, each packet once, are the first packets of the data cut to what it asked
 /// for, and all of it once the stage is over for it. A packet that comes is the next one, or the last one again: toggles
-/// alternate from DATA1 on, and the same toggle brings the same bytes (USB 2.0, 8.5.3 and 8.6). A device that was just reset
-/// and is asked for its descriptor meets the law's conditions.
+/// alternate from DATA1 on, and the same toggle brings the same bytes (USB 2.0, 8.5.3 and 8.6). With handler runs and a task
+/// run before each token, as many tokens as there are packets bring them all. A device that was just reset and is asked for
+/// its descriptor meets the law's conditions.
 pub fn reads_are_delivered()
     ensures delivered { ReadsAreDelivered }
+    ensures ended { ReadsEnd }
     ensures met { PlainIsRead }
 {}
 
