@@ -35,6 +35,13 @@ pub loads_two : (size : ℕ) (capacity : ℕ) (queue : List ℕ) (n : ℕ) (a : 
 loads_two size capacity queue n a b left toggle =
     ap (λ k. in_answers size capacity (pipe_of queue n (a ∷ b ∷ left) k toggle) (Token true ∷ Token true ∷ Token true ∷ [])) (two_of (length left))
 
+-- and none where it finds one loaded
+pub keeps_pace : (size : ℕ) (capacity : ℕ) (queue : List ℕ) (n : ℕ) (a : List ℕ) (b : List ℕ) (left : List (List ℕ)) (toggle : Toggle) →
+    in_answers size capacity (pipe_of queue n (a ∷ b ∷ left) 0 toggle) (Does Irq ∷ Token true ∷ Does Irq ∷ Token true ∷ Token true ∷ []) ≡
+    answers.Data toggle a ∷ answers.Data (flipped toggle) b ∷ answers.Nak ∷ []
+keeps_pace size capacity queue n a b left toggle =
+    ap (λ k. in_answers size capacity (pipe_of queue n (a ∷ b ∷ left) k toggle) (Token true ∷ Does Irq ∷ Token true ∷ Token true ∷ [])) (two_of (length left))
+
 pub loads_one : (size : ℕ) (capacity : ℕ) (queue : List ℕ) (n : ℕ) (a : List ℕ) (toggle : Toggle) →
     in_answers size capacity (pipe_of queue n (a ∷ []) 0 toggle) (Does Irq ∷ Token true ∷ Token true ∷ []) ≡ answers.Data toggle a ∷ answers.Nak ∷ []
 loads_one size capacity queue n a toggle = refl

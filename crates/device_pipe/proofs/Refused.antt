@@ -1,15 +1,15 @@
 -- What a pipe refuses, and what it drops.
-use Rattle.std.proofs.Common.{◌≡◌, ℕ, List, [], ◌∷◌, Bool, true, false, ◌&&◌, if◌then◌else◌, refl, sym, ap, ◌∙◌, true≢false, All, subst}
+use Rattle.std.proofs.Common.{◌≡◌, ℕ, List, [], ◌∷◌, Bool, true, false, ◌&&◌, if◌then◌else◌, refl, sym, ap, ◌∙◌, true≢false, All, subst, None}
 use Rattle.std.proofs.lemmas.List.Elements.{All-head, All-tail}
 use Rattle.usb_packet.specs.declared.bus.Toggle.{Toggle}
 use Rattle.usb_packet.specs.declared.bus.Toggle.TheVariants.{D0, D1}
 use Rattle.usb_packet.specs.declared.bus.BusAnswer.{BusAnswer}
 use Rattle.usb_packet.specs.declared.bus.BusAnswer.TheVariants as answers
 use Rattle.device_pipe.specs.Toggles.{flipped, same_toggle}
-use Rattle.device_pipe.specs.OutPipe.{OutPipe, OutPhase, Closed, Rest, Armed, Landed, Posted, Stale, OutDeed, Irq, Task, Arms, Reads, Halts, OutEvent, Packet, Does, Clears, Drops, out_answer, answer_at, is_ack, after_packet, phase_after_irq, phase_after_task, phase_armed, after_deed, after_deeds, after_event, after_events, opened, leaves_packet}
+use Rattle.device_pipe.specs.OutPipe.{OutPipe, OutPhase, Closed, Rest, Armed, Landed, Posted, Stale, OutDeed, Irq, Task, Arms, Reads, Halts, OutEvent, Packet, Does, Clears, Drops, out_answer, answer_at, is_ack, after_packet, phase_after_irq, phase_after_task, phase_armed, after_deed, after_deeds, after_event, after_events, opened, leaves_packet, after_irq, armed, closed}
 use Rattle.device_pipe.specs.InPipe as inward
 use Rattle.device_pipe.specs.InPipe.{InPipe, InPhase, InDeed, InEvent, in_answer, after_answer, after_token}
-use Rattle.device_pipe.specs.Laws.{IsOutOpen, IsInOpen, ClearsNoOut, ClearsNoIn, ArmsNothing, IsNoArming, ArmsAndHaltsNothing, IsNoArmingOrHalt, RunsNoHandler, IsNoIrq, is_data}
+use Rattle.device_pipe.specs.Laws.{IsOutOpen, IsInOpen, ClearsNoOut, ClearsNoIn, ArmsNothing, IsNoArming, ArmsAndHaltsNothing, IsNoArmingOrHalt, RunsNoHandler, IsNoIrq, is_data, IsNoInIrq, InRunsNoHandler, after_sessions}
 
 and_false : (b : Bool) → (b && false) ≡ false
 and_false true = refl
@@ -347,3 +347,91 @@ serves_if false = refl
 -- the handler run after it is opened ends that
 pub serves : (pipe : OutPipe) → out_answer (after_events (opened pipe) (Does Irq ∷ Does Arms ∷ [])) ≡ answers.Ack
 serves pipe = serves_if (leaves_packet pipe.phase)
+
+stays_stale : (pipe : OutPipe) (events : List OutEvent) → All RunsNoHandler events → pipe.phase ≡ Stale → (after_events pipe events).phase ≡ Stale
+stays_stale pipe [] n e = e
+stays_stale pipe (s ∷ events) n e = stays_stale (after_event pipe s) events (All-tail RunsNoHandler s events n) (stale_event pipe s (All-head RunsNoHandler s events n) e)
+
+-- in however many sessions
+sessions_refuse : (pipe : OutPipe) (sessions : List (List OutEvent)) → All (All RunsNoHandler) sessions → pipe.phase ≡ Stale →
+    is_ack (out_answer (after_sessions pipe sessions)) ≡ false
+sessions_refuse pipe [] n e = stale_answer pipe.phase pipe.halted e
+sessions_refuse pipe (events ∷ sessions) n e =
+    let next = after_events (opened (closed pipe)) events in
+    sessions_refuse next sessions (All-tail (All RunsNoHandler) events sessions n)
+    (stays_stale (opened (closed pipe)) events (All-head (All RunsNoHandler) events sessions n) (ap (λ p. if leaves_packet p then Stale else Rest) e))
+
+pub over_refuses : (pipe : OutPipe) (packet : List ℕ) (events : List OutEvent) (sessions : List (List OutEvent)) → pipe.phase ≡ Landed packet →
+    All (All RunsNoHandler) (events ∷ sessions) → is_ack (out_answer (after_sessions pipe (events ∷ sessions))) ≡ false
+over_refuses pipe packet events sessions e n =
+    let next = after_events (opened (closed pipe)) events in
+    sessions_refuse next sessions (All-tail (All RunsNoHandler) events sessions n)
+    (stays_stale (opened (closed pipe)) events (All-head (All RunsNoHandler) events sessions n) (ap (λ p. if leaves_packet p then Stale else Rest) e))
+
+rests_at : (phase : OutPhase) → leaves_packet (phase_after_irq phase) ≡ false
+rests_at (Closed over) = refl
+rests_at Rest = refl
+rests_at Armed = refl
+rests_at (Landed packet) = refl
+rests_at Posted = refl
+rests_at Stale = refl
+
+pub rests : (pipe : OutPipe) → (opened (closed (after_irq pipe))).phase ≡ Rest
+rests pipe = ap (λ b. if b then Stale else Rest) (rests_at pipe.phase)
+
+still_armed : (phase : OutPhase) → phase_armed phase true ≡ phase
+still_armed (Closed over) = refl
+still_armed Rest = refl
+still_armed Armed = refl
+still_armed (Landed packet) = refl
+still_armed Posted = refl
+still_armed Stale = refl
+
+-- a halted pipe isn't armed
+pub halted_rests : (pipe : OutPipe) → pipe.halted ≡ true → armed pipe ≡ pipe
+halted_rests pipe e = ap (λ p. record pipe { phase = p }) (ap (λ h. phase_armed pipe.phase h) e ∙ still_armed pipe.phase)
+
+-- an IN pipe with nothing loaded
+unloaded_next : (phase : InPhase) (loaded : ℕ) → loaded ≡ 0 → inward.next_packet phase loaded ≡ None
+unloaded_next inward.Closed loaded e = refl
+unloaded_next inward.Rest loaded e = refl
+unloaded_next (inward.Posted n) loaded e = refl
+unloaded_next (inward.Running n left) loaded e = ap (λ k. inward.next_packet (inward.Running n left) k) e
+
+no_data_if : (b c : Bool) (t : Toggle) → is_data (if b then answers.NoAnswer else (if c then answers.Stall else inward.sent t None)) ≡ false
+no_data_if true c t = refl
+no_data_if false true t = refl
+no_data_if false false t = refl
+
+unloaded_answer : (pipe : InPipe) → pipe.loaded ≡ 0 → is_data (in_answer pipe) ≡ false
+unloaded_answer pipe e =
+    ap (λ o. is_data (if inward.is_closed pipe.phase then answers.NoAnswer else (if pipe.halted then answers.Stall else inward.sent pipe.toggle o))) (unloaded_next pipe.phase pipe.loaded e) ∙
+    no_data_if (inward.is_closed pipe.phase) pipe.halted pipe.toggle
+
+unloaded_deed : (size capacity : ℕ) (pipe : InPipe) (d : InDeed) → IsNoInIrq d → pipe.loaded ≡ 0 → (inward.after_deed size capacity pipe d).loaded ≡ 0
+unloaded_deed size capacity pipe inward.Irq n e = elim n [ ]
+unloaded_deed size capacity pipe inward.Task n e = e
+unloaded_deed size capacity pipe inward.Starts n e = e
+unloaded_deed size capacity pipe (inward.Writes bytes) n e = e
+unloaded_deed size capacity pipe inward.Halts n e = e
+
+unloaded_event : (size capacity : ℕ) (pipe : InPipe) (s : InEvent) → InRunsNoHandler s → pipe.loaded ≡ 0 → (inward.after_event size capacity pipe s).loaded ≡ 0
+unloaded_event size capacity pipe (inward.Token ok) n e = ap (λ (q : InPipe). q.loaded) (unanswered pipe ok (unloaded_answer pipe e)) ∙ e
+unloaded_event size capacity pipe (inward.Does d) n e = unloaded_deed size capacity pipe d n e
+unloaded_event size capacity pipe inward.Clears n e = refl
+unloaded_event size capacity pipe inward.Drops n e = refl
+
+pub unloaded_sends_nothing : (size : ℕ) (capacity : ℕ) (pipe : InPipe) (events : List InEvent) → pipe.loaded ≡ 0 → All InRunsNoHandler events →
+    is_data (in_answer (inward.after_events size capacity pipe events)) ≡ false
+unloaded_sends_nothing size capacity pipe [] e n = unloaded_answer pipe e
+unloaded_sends_nothing size capacity pipe (s ∷ events) e n =
+    unloaded_sends_nothing size capacity (inward.after_event size capacity pipe s) events
+    (unloaded_event size capacity pipe s (All-head InRunsNoHandler s events n) e) (All-tail InRunsNoHandler s events n)
+
+pub clear_waits : (size : ℕ) (capacity : ℕ) (pipe : InPipe) (events : List InEvent) → All InRunsNoHandler events →
+    is_data (in_answer (inward.after_events size capacity (inward.cleared pipe) events)) ≡ false
+clear_waits size capacity pipe events n = unloaded_sends_nothing size capacity (inward.cleared pipe) events refl n
+
+pub drop_waits : (size : ℕ) (capacity : ℕ) (pipe : InPipe) (events : List InEvent) → All InRunsNoHandler events →
+    is_data (in_answer (inward.after_events size capacity (inward.dropped pipe) events)) ≡ false
+drop_waits size capacity pipe events n = unloaded_sends_nothing size capacity (inward.dropped pipe) events refl n

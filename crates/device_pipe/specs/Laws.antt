@@ -205,6 +205,24 @@ RunsNoHandler (out.Packet toggle bytes) = ⊤
 RunsNoHandler out.Clears = ⊤
 RunsNoHandler out.Drops = ⊤
 
+abbrev pub IsNoInIrq : InDeed → Type 0
+IsNoInIrq inward.Irq = ⊥
+IsNoInIrq inward.Task = ⊤
+IsNoInIrq inward.Starts = ⊤
+IsNoInIrq (inward.Writes bytes) = ⊤
+IsNoInIrq inward.Halts = ⊤
+
+abbrev pub InRunsNoHandler : InEvent → Type 0
+InRunsNoHandler (inward.Does deed) = IsNoInIrq deed
+InRunsNoHandler (inward.Token ok) = ⊤
+InRunsNoHandler inward.Clears = ⊤
+InRunsNoHandler inward.Drops = ⊤
+
+-- sessions one after the other, with what happens in each
+abbrev pub after_sessions : OutPipe → List (List OutEvent) → OutPipe
+after_sessions pipe [] = pipe
+after_sessions pipe (events ∷ sessions) = after_sessions (out.after_events (out.opened (out.closed pipe)) events) sessions
+
 -- nothing that ends a packet's sending: an acknowledgement, a halt, a clear, or a drop
 abbrev pub IsNoHalt : InDeed → Type 0
 IsNoHalt inward.Irq = ⊤

@@ -11,7 +11,7 @@ ghost use Rattle.device_pipe.specs.InPipe as inward;
 ghost use Rattle.device_pipe.specs.InPipe.{InPipe, InEvent, in_answer, cut};
 ghost use Rattle.device_pipe.specs.OutLink.{OutStep, out_run, out_start};
 ghost use Rattle.device_pipe.specs.InLink.{InStep, in_run, in_start};
-ghost use Rattle.device_pipe.specs.Laws.{IsTakenOnce, IsKeptOnce, AreFull, IsUnheard, took, read, DropsNothing, is_data, IsOutOpen, IsInOpen, ClearsNoOut, ClearsNoIn, ArmsNothing, ArmsAndHaltsNothing, RunsNoHandler, in_answers, rounds};
+ghost use Rattle.device_pipe.specs.Laws.{IsTakenOnce, IsKeptOnce, AreFull, IsUnheard, took, read, DropsNothing, is_data, IsOutOpen, IsInOpen, ClearsNoOut, ClearsNoIn, ArmsNothing, ArmsAndHaltsNothing, RunsNoHandler, InRunsNoHandler, after_sessions, in_answers, rounds};
 ghost use Rattle.device_pipe.specs.OutExamples.{out_successful, out_successful_end, out_not_accepted, out_not_accepted_end, out_unheard, out_unheard_end, out_again, out_again_end};
 ghost use Rattle.device_pipe.specs.InExamples.{in_successful, in_successful_end, in_lost, in_lost_end, in_unheard, in_unheard_end, in_again, in_again_end, in_full, in_full_end};
 
@@ -76,6 +76,9 @@ pub fn clear()
     ensures in_toggle { (pipe : InPipe) → (inward.cleared pipe).toggle ≡ D0 }
     ensures in_halt { (pipe : InPipe) → (inward.cleared pipe).halted ≡ false }
     ensures queue { (pipe : InPipe) (n : ℕ) (left : List (List ℕ)) → pipe.phase ≡ inward.Running n left → (inward.cleared pipe).queue ≡ drop n pipe.queue }
+    ensures rests { (pipe : InPipe) → IsInOpen pipe.phase → (inward.cleared pipe).phase ≡ inward.Rest }
+    ensures waits { (size : ℕ) (capacity : ℕ) (pipe : InPipe) (events : List InEvent) → All InRunsNoHandler events →
+        is_data (in_answer (inward.after_events size capacity (inward.cleared pipe) events)) ≡ false }
     ensures empty { (pipe : InPipe) → IsInOpen pipe.phase → in_answer (inward.cleared pipe) ≡ answers.Nak }
     ensures next { (size : ℕ) (capacity : ℕ) (queue : List ℕ) (n : ℕ) (left : List (List ℕ)) (loaded : ℕ) (toggle : Toggle) (halted : Bool) →
         in_answer
@@ -98,17 +101,40 @@ pub fn refused()
 {}
 
 /// After a packet landed no other is acknowledged until a task arms the pipe: each gets NAK, or STALL where the endpoint was
-/// halted.
+/// halted. No task arms a pipe that is halted.
 pub fn only_a_task_arms()
     ensures refused { (pipe : OutPipe) (packet : List ℕ) (events : List OutEvent) → out_answer pipe ≡ answers.Ack → All ArmsNothing events →
         is_ack (out_answer (out.after_events (out.after_packet pipe pipe.toggle packet) events)) ≡ false }
     ensures nak { (pipe : OutPipe) (packet : List ℕ) (events : List OutEvent) → out_answer pipe ≡ answers.Ack → All ArmsAndHaltsNothing events →
         out_answer (out.after_events (out.after_packet pipe pipe.toggle packet) events) ≡ answers.Nak }
+    ensures halted { (pipe : OutPipe) → pipe.halted ≡ true → out.armed pipe ≡ pipe }
+{}
+
+/// Only a handler run loads: from a pipe with nothing loaded no packet is sent until one ran, whatever is started, cleared or
+/// dropped.
+pub fn only_a_handler_run_loads()
+    ensures { (size : ℕ) (capacity : ℕ) (pipe : InPipe) (events : List InEvent) → pipe.loaded ≡ 0 → All InRunsNoHandler events →
+        is_data (in_answer (inward.after_events size capacity pipe events)) ≡ false }
+{}
+
+/// Dropping empties the bytes held of an OUT pipe and changes nothing else. It empties the queue of an IN pipe and ends its
+/// transfer, so that nothing is sent until a handler run finds another; the toggle and the halt stay.
+pub fn drop_all()
+    ensures held { (pipe : OutPipe) → (out.dropped pipe).held ≡ [] }
+    ensures phase { (pipe : OutPipe) → (out.dropped pipe).phase ≡ pipe.phase }
+    ensures toggle { (pipe : OutPipe) → (out.dropped pipe).toggle ≡ pipe.toggle }
+    ensures halt { (pipe : OutPipe) → (out.dropped pipe).halted ≡ pipe.halted }
+    ensures queue { (pipe : InPipe) → (inward.dropped pipe).queue ≡ [] }
+    ensures rests { (pipe : InPipe) → IsInOpen pipe.phase → (inward.dropped pipe).phase ≡ inward.Rest }
+    ensures in_toggle { (pipe : InPipe) → (inward.dropped pipe).toggle ≡ pipe.toggle }
+    ensures in_halt { (pipe : InPipe) → (inward.dropped pipe).halted ≡ pipe.halted }
+    ensures waits { (size : ℕ) (capacity : ℕ) (pipe : InPipe) (events : List InEvent) → All InRunsNoHandler events →
+        is_data (in_answer (inward.after_events size capacity (inward.dropped pipe) events)) ≡ false }
 {}
 
 /// A pipe that is served moves packets. An OUT pipe at rest that is armed takes a packet of its toggle, and is at rest again
-/// after a handler run and a task run. A handler run loads two packets of a transfer, or the last one, and a transfer whose
-/// packets are acknowledged ends.
+/// after a handler run and a task run. A handler run that finds nothing loaded loads two packets of a transfer, or the last
+/// one; one that finds a packet loaded loads none. A transfer whose packets are acknowledged ends.
 pub fn moves_packets()
     ensures takes { (toggle : Toggle) (held : List ℕ) (packet : List ℕ) →
         out.after_events (record { phase = out.Rest; halted = false; toggle = toggle; held = held })
@@ -127,6 +153,10 @@ pub fn moves_packets()
         in_answers size capacity (record { queue = queue; phase = inward.Running n (a ∷ []); loaded = 0; toggle = toggle; halted = false })
         (inward.Does inward.Irq ∷ inward.Token true ∷ inward.Token true ∷ []) ≡
         answers.Data toggle a ∷ answers.Nak ∷ [] }
+    ensures pace { (size : ℕ) (capacity : ℕ) (queue : List ℕ) (n : ℕ) (a : List ℕ) (b : List ℕ) (left : List (List ℕ)) (toggle : Toggle) →
+        in_answers size capacity (record { queue = queue; phase = inward.Running n (a ∷ b ∷ left); loaded = 0; toggle = toggle; halted = false })
+        (inward.Does inward.Irq ∷ inward.Token true ∷ inward.Does inward.Irq ∷ inward.Token true ∷ inward.Token true ∷ []) ≡
+        answers.Data toggle a ∷ answers.Data (flipped toggle) b ∷ answers.Nak ∷ [] }
     ensures ends { (size : ℕ) (capacity : ℕ) (queue : List ℕ) (n : ℕ) (left : List (List ℕ)) (toggle : Toggle) (k : ℕ) → length left ≤ k →
         inward.ended
         (inward.after_events size capacity (record { queue = queue; phase = inward.Running n left; loaded = 0; toggle = toggle; halted = false }) (rounds k)) ≡
@@ -134,8 +164,8 @@ pub fn moves_packets()
 {}
 
 /// A pipe that is closed answers nothing and holds nothing. Where a packet that was dropped with it still lies in the receive
-/// FIFO, an OUT pipe that is opened takes no packet until a handler run has passed over that one; from then on it serves as
-/// every other, at DATA0 and with nothing held (9.1.1.5).
+/// FIFO, an OUT pipe that is opened takes no packet until a handler run has passed over that one, in however many sessions; from
+/// then on it serves as every other, at DATA0 and with nothing held (9.1.1.5).
 pub fn opened_and_closed()
     ensures silent { (pipe : OutPipe) → out_answer (out.closed pipe) ≡ answers.NoAnswer }
     ensures in_silent { in_answer inward.closed ≡ answers.NoAnswer }
@@ -147,6 +177,11 @@ pub fn opened_and_closed()
     ensures passed { (pipe : OutPipe) → (out.opened (out.after_irq (out.closed pipe))).phase ≡ out.Rest }
     ensures stale { (pipe : OutPipe) (events : List OutEvent) → out.leaves_packet pipe.phase ≡ true → All RunsNoHandler events →
         is_ack (out_answer (out.after_events (out.opened pipe) events)) ≡ false }
+    ensures rests { (pipe : OutPipe) → (out.opened (out.closed (out.after_irq pipe))).phase ≡ out.Rest }
+    ensures over { (pipe : OutPipe) (packet : List ℕ) (events : List OutEvent) (sessions : List (List OutEvent)) → pipe.phase ≡ out.Landed packet →
+        All (All RunsNoHandler) (events ∷ sessions) → is_ack (out_answer (after_sessions pipe (events ∷ sessions))) ≡ false }
+    ensures in_opened { in_answer inward.opened ≡ answers.Nak }
+    ensures unopened { (out.opened out.unopened).phase ≡ out.Rest }
     ensures serves { (pipe : OutPipe) → out_answer (out.after_events (out.opened pipe) (out.Does out.Irq ∷ out.Does out.Arms ∷ [])) ≡ answers.Ack }
 {}
 
