@@ -17,6 +17,7 @@ use Rattle.device_relation.specs.Software.{Software}
 use Rattle.device_relation.specs.Relation.{Stands, IsSound, is_idle, abstract}
 use Rattle.device_relation.specs.Port as port
 use Rattle.device_relation.specs.Port.{Port, port_of, after_handler}
+use Rattle.device_relation.proofs.Runs.{other_notes}
 use Rattle.dwc2_device.specs.Driver.{Driver, joint}
 use Rattle.usbd_core.specs.Device.{Device, KeepsAddress, is_for_host, GivesStatus, Fits, Rests, Agrees, IsQuiet, address_of, core_of, port_in}
 use Rattle.usbd_core.specs.Hears.{state_sent, with_driver, after_note}
@@ -296,19 +297,6 @@ run_settles set k p h f r =
 
 -- Over the driver.
 
--- its notes leave controller and software as sound
-quiet_stands : (t : Table) (s : Software) (m : Bus) → Stands FS4 t s m → Stands FS4 t (record s { reset = false; finished = None; request = None }) m
-quiet_stands t s m st = record {
-  ins = st.ins;
-  outs = st.outs;
-  pair = st.pair;
-  side = st.side;
-  rx = st.rx;
-  pipes = st.pipes;
-  rest = st.rest;
-  core = record { awake = st.core.awake; reset = st.core.reset; address = st.core.address; endpoints = st.core.endpoints; landed = st.core.landed; asleep = st.core.asleep; next = st.core.next };
-}
-
 -- the device once the notes of its driver are taken
 pub record Heard (old new : Device) : Type 0 where
   pub core : core_of new ≡ after_irq (core_of old)
@@ -318,7 +306,7 @@ heard_is : (old : Device) (d : Driver) (new : Device) → IsSound FS4 (joint d) 
     → new ≡ device old.set (quiet d) (after (kept old) (port_of (joint d))) → Heard old new
 heard_is old d new st s e =
     let settled : Heard old (device old.set (quiet d) (after (kept old) (port_of (joint d)))) =
-    record { core = s.core; agrees = record { sound = quiet_stands d.bank.table d.software (abstract (joint d)) st; fits = s.fits; rests = s.rests } } in
+    record { core = s.core; agrees = record { sound = other_notes d.bank.table d.software (abstract (joint d)) false None None st; fits = s.fits; rests = s.rests } } in
     subst (λ (x : Device). Heard old x) (sym e) settled
 
 twice : (old : Device) (d : Driver) → Agrees FS4 old → IsSound FS4 (joint d) → port_of (joint d) ≡ after_handler (port_in old) → Heard old (after_note (after_note (with_driver old d)))
