@@ -1,9 +1,9 @@
 // What a read of each register gives, and what it changes.
-ghost use Rattle.std.specs.Prelude.{◌≡◌, ℕ, ◌+◌, ◌^◌, ◌<◌, ◌≤◌, ◌∷◌, true, length};
+ghost use Rattle.std.specs.Prelude.{◌≡◌, ℕ, ◌+◌, ◌^◌, ◌<◌, ◌≤◌, ◌∷◌, ◌&&◌, true, length};
 ghost use Rattle.dwc2_regs.specs.Register.{fifo, dieptxf};
 ghost use Rattle.dwc2_fifo.specs.Rx.{first_status};
 ghost use Rattle.device_table.specs.Words.{kind_of, number_of};
-ghost use Rattle.device_table.specs.Read.{in_interrupts, out_interrupts, in_bits, out_bits, number_of_bits, any_under, iepint, oepint, daint_word, gintsts_word, rxflvl, value_read, after_read, entry_popped, end_popped, read_value, read_table};
+ghost use Rattle.device_table.specs.Read.{in_interrupts, out_interrupts, in_bits, out_bits, number_of_bits, any_under, iepint, oepint, daint_word, gintsts_word, rxflvl, bit_at, value_read, after_read, entry_popped, end_popped, read_value, read_table};
 ghost use Rattle.device_table.specs.State.{out_end, with_out};
 ghost use Rattle.dwc2_state.specs.Place.{register_of, of_core, of_host, of_device, of_channel, of_in, of_out};
 
@@ -180,7 +180,7 @@ impl Controller {
     {
         (end.is_complete() && flag(self.kept.diepmsk, DIEPINT_XFRC))
             || (end.was_disabled() && flag(self.kept.diepmsk, DIEPINT_EPDISD))
-            || (end.has_room(number) && bit_at(self.kept.diepempmsk, number))
+            || (bit_at(self.kept.diepempmsk, number) && end.has_room(number))
     }
 
     // An OUT endpoint's bit of DAINT.
@@ -233,8 +233,16 @@ impl Controller {
     fn any_in(&self) -> bool
         ensures { result ≡ iepint self.now }
     {
-        (self.in_interrupts(0, &self.in0) && bit_at(self.kept.daintmsk, 0))
+        (bit_at(self.kept.daintmsk, 0) && self.in_interrupts(0, &self.in0))
             || self.any_in_from(1, self.ins.as_slice())
+    }
+
+    // Whether an IN endpoint's bit of DAINT is 1 under DAINTMSK, of which most bits are 0.
+    fn in_asks(&self, number: u8, end: &InEndpoint) -> bool
+        requires { number ≤ 31 }
+        ensures { result ≡ (in_interrupts self.now number end.now && bit_at self.now.kept.daintmsk number) }
+    {
+        bit_at(self.kept.daintmsk, number) && self.in_interrupts(number, end)
     }
 
     fn any_in_from(&self, number: u8, ends: &[InEndpoint]) -> bool
@@ -243,17 +251,14 @@ impl Controller {
     {
         match ends {
             [] => false,
-            [end, rest @ ..] => {
-                (self.in_interrupts(number, end) && bit_at(self.kept.daintmsk, number))
-                    || self.any_in_from(number + 1, rest)
-            }
+            [end, rest @ ..] => { self.in_asks(number, end) || self.any_in_from(number + 1, rest) }
         }
     }
 
     fn any_out(&self) -> bool
         ensures { result ≡ oepint self.now }
     {
-        (self.out_interrupts(&self.out0) && bit_at(self.kept.daintmsk, 16))
+        (bit_at(self.kept.daintmsk, 16) && self.out_interrupts(&self.out0))
             || self.any_out_from(17, self.outs.as_slice())
     }
 
@@ -264,7 +269,7 @@ impl Controller {
         match ends {
             [] => false,
             [end, rest @ ..] => {
-                (self.out_interrupts(end) && bit_at(self.kept.daintmsk, number))
+                (bit_at(self.kept.daintmsk, number) && self.out_interrupts(end))
                     || self.any_out_from(number + 1, rest)
             }
         }
