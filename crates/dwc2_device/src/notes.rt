@@ -36,10 +36,12 @@ impl<R: Regs + Drop> DevPort<R> {
             self.reset = false;
             return Some(Note::Reset);
         }
-        match self.finished.take() {
-            Some(Stage::Sent) => return Some(Note::Ep0In),
-            Some(Stage::Came(packet)) => return Some(Note::Ep0Out(packet)),
-            None => {}
+        if self.finished.is_some() {
+            return match self.finished.take() {
+                Some(Stage::Sent) => Some(Note::Ep0In),
+                Some(Stage::Came(packet)) => Some(Note::Ep0Out(packet)),
+                None => None,
+            };
         }
         match self.request.take() {
             Some(bytes) => Some(Note::Setup(bytes)),

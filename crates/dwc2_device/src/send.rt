@@ -12,7 +12,6 @@ use crate::words::{CNAK, CNAK_EPENA, SNAK_EPENA, XFRC};
 use device_relation::{Heard, Ready};
 use dwc2_access::Regs;
 use dwc2_regs::{DIEPTSIZ0, fifo_window, pack_word};
-use std::mem;
 use usb_packet::Packet;
 
 /// DIEPTSIZ0: a count of one packet.
@@ -25,13 +24,17 @@ impl<R: Regs + Drop> DevPort<R> {
         ensures joint { joint self.new ≡ waiting_loaded (joint self.old) }
         ensures spends { Spends 21 self.old.bank self.new.bank }
     {
-        match mem::replace(&mut self.side, Ready::Loaded) {
-            Ready::Wait { packet, last } => self.load(&packet, last),
-            Ready::Off => self.side = Ready::Off,
-            Ready::Loaded => self.side = Ready::Loaded,
-            Ready::Last => self.side = Ready::Last,
-            Ready::Armed => self.side = Ready::Armed,
-            Ready::Stall => self.side = Ready::Stall,
+        match &self.side {
+            Ready::Wait { packet, last } => {
+                let packet = packet.copy();
+                let last = *last;
+                self.load(&packet, last);
+            }
+            Ready::Off => {}
+            Ready::Loaded => {}
+            Ready::Last => {}
+            Ready::Armed => {}
+            Ready::Stall => {}
         }
     }
 
