@@ -5,7 +5,8 @@ use Rattle.usb_descriptor.specs.declared.endpoint.Endpoint.{Endpoint}
 use Rattle.usb_descriptor.specs.declared.endpoint.EpKind.{EpKind}
 use Rattle.usb_descriptor.specs.declared.endpoint.EpKind.TheVariants.{Bulk, Interrupt}
 use Rattle.device_machine.specs.declared.control.Stage.TheVariants.{Sent, Came}
-use Rattle.dwc2_regs.specs.declared.TheConstants.{DIEPINT_XFRC, GINTSTS_USBRST, GRXSTSP_BYTES}
+use Rattle.dwc2_regs.specs.declared.bits.Field.{Field}
+use Rattle.dwc2_regs.specs.declared.TheConstants.{GRSTCTL_TXFFLSH, GRSTCTL_TXFNUM, DIEPCTL_STALL, DIEPCTL_CNAK, DIEPCTL_SNAK, DIEPCTL_EPDIS, DIEPCTL_EPENA, DIEPINT_XFRC, DIEPINT_EPDISD, DOEPINT_XFRC, DOEPINT_EPDISD, DOEPINT_STUP, GINTSTS_USBRST, GINTSTS_ENUMDNE, GRXSTSP_BYTES}
 use Rattle.dwc2_regs.specs.Field.{field_of}
 use Rattle.dwc2_regs.specs.Register.{grstctl, gintsts, grxstsp, dcfg, diepctl, diepint, dieptsiz, doepctl, doepint, fifo}
 use Rattle.dwc2_fifo.specs.Words.{word_count, words_of, bytes_in}
@@ -21,38 +22,44 @@ use Rattle.device_relation.specs.declared.software.Heard.TheVariants as heard
 use Rattle.device_relation.specs.Software.{Joint, unused}
 use Rattle.device_relation.specs.Relation.{was_packet, one_packet}
 
--- Words of the control registers: SNAK and EPDIS; SNAK and EPENA; CNAK; EPENA and CNAK; STALL.
+-- the word in which these bits alone are 1
+abbrev pub ones : List Field → ℕ
+ones [] = 0
+ones (field ∷ fields) = 2 ^ field.low + ones fields
+
+-- Words of the control registers, of which DIEPCTLx and DOEPCTLx have these bits in common.
 
 abbrev pub snak_epdis : ℕ
-snak_epdis = 0x48000000
+snak_epdis = ones (DIEPCTL_SNAK ∷ DIEPCTL_EPDIS ∷ [])
 
 abbrev pub snak_epena : ℕ
-snak_epena = 0x88000000
+snak_epena = ones (DIEPCTL_SNAK ∷ DIEPCTL_EPENA ∷ [])
 
 abbrev pub cnak : ℕ
-cnak = 0x04000000
+cnak = ones (DIEPCTL_CNAK ∷ [])
 
 abbrev pub epena_cnak : ℕ
-epena_cnak = 0x84000000
+epena_cnak = ones (DIEPCTL_EPENA ∷ DIEPCTL_CNAK ∷ [])
 
 abbrev pub stall : ℕ
-stall = 0x00200000
+stall = ones (DIEPCTL_STALL ∷ [])
 
--- bits of DIEPINTx and DOEPINTx, of GINTSTS, and GRSTCTL's TXFFLSH for all FIFOs
+-- bits of DIEPINTx and DOEPINTx, and of GINTSTS
 abbrev pub xfrc : ℕ
-xfrc = 1
+xfrc = ones (DIEPINT_XFRC ∷ [])
 
 abbrev pub all_in_interrupts : ℕ
-all_in_interrupts = 3
+all_in_interrupts = ones (DIEPINT_XFRC ∷ DIEPINT_EPDISD ∷ [])
 
 abbrev pub all_out_interrupts : ℕ
-all_out_interrupts = 11
+all_out_interrupts = ones (DOEPINT_XFRC ∷ DOEPINT_EPDISD ∷ DOEPINT_STUP ∷ [])
 
 abbrev pub reset_bits : ℕ
-reset_bits = 0x3000
+reset_bits = ones (GINTSTS_USBRST ∷ GINTSTS_ENUMDNE ∷ [])
 
+-- GRSTCTL's TXFFLSH for all FIFOs, whose number is 16
 abbrev pub flush_all : ℕ
-flush_all = 0x420
+flush_all = ones (GRSTCTL_TXFFLSH ∷ []) + 16 * 2 ^ GRSTCTL_TXFNUM.low
 
 -- DCFG with an address in bits 10 to 4
 abbrev pub address_word : ℕ → ℕ

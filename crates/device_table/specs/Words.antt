@@ -3,7 +3,7 @@ use Rattle.std.specs.Prelude.{ℕ, zero, suc, ◌+◌, ◌*◌, ◌^◌, ◌==�
 use Rattle.usb_packet.specs.declared.bus.Toggle.{Toggle}
 use Rattle.usb_packet.specs.declared.bus.Toggle.TheVariants.{D0, D1}
 use Rattle.dwc2_regs.specs.declared.bits.Field.{Field}
-use Rattle.dwc2_regs.specs.declared.TheConstants.{DIEPCTL0_SIZE, DIEPCTL_SIZE, DIEPCTL_NAKSTS, DIEPCTL_STALL, DIEPCTL_CNAK, DIEPCTL_SNAK, DIEPCTL_SD0PID, DIEPCTL_EPDIS, DIEPCTL_EPENA, DIEPTSIZ0_SIZE, DIEPTSIZ0_COUNT, DIEPTSIZ_SIZE, DIEPTSIZ_COUNT, GRXSTSP_STATUS, GRXSTSP_NUMBER}
+use Rattle.dwc2_regs.specs.declared.TheConstants.{DIEPCTL0_SIZE, DIEPCTL_SIZE, DIEPCTL_NAKSTS, DIEPCTL_STALL, DIEPCTL_CNAK, DIEPCTL_SNAK, DIEPCTL_SD0PID, DIEPCTL_EPDIS, DIEPCTL_EPENA, DIEPTSIZ0_SIZE, DIEPTSIZ0_COUNT, DIEPTSIZ_SIZE, DIEPTSIZ_COUNT, GRXSTSP_STATUS, GRXSTSP_NUMBER, OUT_DATA, OUT_DONE, SETUP_DONE, SETUP_DATA}
 use Rattle.dwc2_regs.specs.Field.{field_of, with_field}
 use Rattle.device_table.specs.State.{Control}
 
@@ -72,16 +72,16 @@ with_packet_count (suc n) tsiz count = with_field tsiz DIEPTSIZ_COUNT count
 
 -- what kind of entry it is: the data of an OUT packet, the end of its transfer, the end of a SETUP, the data of a SETUP
 abbrev pub out_data : ℕ
-out_data = 2
+out_data = OUT_DATA
 
 abbrev pub out_done : ℕ
-out_done = 3
+out_done = OUT_DONE
 
 abbrev pub setup_done : ℕ
-setup_done = 4
+setup_done = SETUP_DONE
 
 abbrev pub setup_data : ℕ
-setup_data = 6
+setup_data = SETUP_DATA
 
 -- the PID of a data packet
 abbrev pub pid_of : Toggle → ℕ

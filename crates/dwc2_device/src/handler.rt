@@ -12,11 +12,12 @@ ghost use Rattle.device_relation.specs.declared.software.Ready.TheVariants.{Load
 ghost use Rattle.dwc2_device.specs.Driver.{joint, Wakes, Has, Spends};
 
 use crate::DevPort;
-use crate::words::XFRC;
+use crate::words::xfrc;
+use bitflags::Flags;
 use device_machine::Stage;
 use device_relation::Ready;
 use dwc2_access::Regs;
-use dwc2_regs::{DIEPINT_XFRC, GINTSTS, GINTSTS_USBRST, diepint, get_field};
+use dwc2_regs::{CoreInterrupts, EndpointInterrupts, GINTSTS, diepint};
 
 impl<R: Regs + Drop> DevPort<R> {
     /// One handler run. It serves a reset, and wakes with its last access; or notes a stage that finished, sets the address where that was to bring one, and
@@ -45,13 +46,14 @@ impl<R: Regs + Drop> DevPort<R> {
         }
     }
 
+    #[tactic(auto, using(dwc2_regs::proofs::SetLemmas::interrupt_bits))]
     fn find_reset(&mut self) -> bool
         requires has { Has 1 self.old.bank }
         ensures value { result ≡ flag (value_read self.old.bank.table gintsts) GINTSTS_USBRST }
         ensures joint { joint self.new ≡ joint self.old }
         ensures spends { Spends 1 self.old.bank self.new.bank }
     {
-        get_field(self.read(GINTSTS), GINTSTS_USBRST) == 1
+        CoreInterrupts::from_bits_retain(self.read(GINTSTS)).contains(CoreInterrupts::USBRST)
     }
 
     /// A run that finds no reset.
@@ -80,13 +82,15 @@ impl<R: Regs + Drop> DevPort<R> {
         self.load_waiting();
     }
 
+    #[tactic(auto, using(dwc2_regs::proofs::SetLemmas::interrupt_bits))]
     fn find_ack(&mut self) -> bool
         requires has { Has 1 self.old.bank }
         ensures value { result ≡ acknowledged (joint self.old) }
         ensures joint { joint self.new ≡ joint self.old }
         ensures spends { Spends 1 self.old.bank self.new.bank }
     {
-        get_field(self.read(diepint(0)), DIEPINT_XFRC) == 1
+        let interrupts = EndpointInterrupts::from_bits_retain(self.read(diepint(0)));
+        interrupts.contains(EndpointInterrupts::XFRC)
     }
 
     /// A packet was loaded: where the host acknowledged it, that stage is finished.
@@ -123,7 +127,7 @@ impl<R: Regs + Drop> DevPort<R> {
         ensures joint { joint self.new ≡ sent_noted (joint self.old) }
         ensures spends { Spends 1 self.old.bank self.new.bank }
     {
-        self.clear_in_interrupts(0, XFRC);
+        self.clear_in_interrupts(0, xfrc());
         self.side = Ready::Off;
         self.finished = Some(Stage::Sent);
     }
@@ -135,7 +139,7 @@ impl<R: Regs + Drop> DevPort<R> {
         ensures spends { Spends 190 self.old.bank self.new.bank }
     {
         if self.find_ack() {
-            self.clear_in_interrupts(0, XFRC);
+            self.clear_in_interrupts(0, xfrc());
             self.side = Ready::Armed;
         }
         self.serve_rest();

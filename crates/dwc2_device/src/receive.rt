@@ -10,25 +10,19 @@ ghost use Rattle.device_relation.specs.Run.{with_table, after_words, words_read,
 ghost use Rattle.dwc2_device.specs.Driver.{joint, Has, Spends};
 
 use crate::DevPort;
-use crate::words::{ALL_OUT_INTERRUPTS, SNAK_EPDIS, XFRC};
+use crate::words::{SNAK_EPDIS, all_out_interrupts, xfrc};
 use arrayvec::ArrayVec;
 use device_machine::Stage;
 use device_relation::{Heard, Ready};
 use dwc2_access::Regs;
-use dwc2_regs::{GRXSTSP, GRXSTSP_BYTES, GRXSTSP_STATUS, fifo_window, get_field};
+use dwc2_regs::{
+    GRXSTSP, GRXSTSP_BYTES, GRXSTSP_STATUS, OUT_DATA, OUT_DONE, SETUP_DATA, SETUP_DONE,
+    fifo_window, get_field,
+};
 use usb_packet::Packet;
 
 /// The most entries that lie there.
 pub const MOST_ENTRIES: u8 = 8;
-
-/// What kind of entry it is.
-const OUT_DATA: u32 = 2;
-
-const OUT_DONE: u32 = 3;
-
-const SETUP_DONE: u32 = 4;
-
-const SETUP_DATA: u32 = 6;
 
 /// The bytes of two words, the lowest first.
 fn eight_bytes(low: u32, high: u32) -> [u8; 8]
@@ -77,7 +71,7 @@ impl<R: Regs + Drop> DevPort<R> {
             SETUP_DATA => self.take_setup(),
             SETUP_DONE => self.end_setup(),
             OUT_DATA => self.take_packet(get_field(status, GRXSTSP_BYTES)),
-            OUT_DONE => self.clear_out_interrupts(0, XFRC),
+            OUT_DONE => self.clear_out_interrupts(0, xfrc()),
             _ => {}
         }
     }
@@ -101,7 +95,7 @@ impl<R: Regs + Drop> DevPort<R> {
     {
         self.write_in_control(0, SNAK_EPDIS);
         self.write_out_control(0, SNAK_EPDIS);
-        self.clear_out_interrupts(0, ALL_OUT_INTERRUPTS);
+        self.clear_out_interrupts(0, all_out_interrupts());
         self.side = Ready::Off;
         self.heard = Heard::Setup;
         self.next_address = None;

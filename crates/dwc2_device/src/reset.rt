@@ -9,7 +9,7 @@ ghost use Rattle.dwc2_device.specs.Driver.{joint, Wakes, Has, Spends};
 
 use crate::DevPort;
 use crate::receive::MOST_ENTRIES;
-use crate::words::{ALL_IN_INTERRUPTS, ALL_OUT_INTERRUPTS, FLUSH_ALL, RESET_BITS, SNAK_EPDIS};
+use crate::words::{FLUSH_ALL, SNAK_EPDIS, all_in_interrupts, all_out_interrupts, reset_bits};
 use arrayvec::ArrayVec;
 use device_relation::{Heard, Ready};
 use dwc2_access::Regs;
@@ -67,7 +67,7 @@ impl<R: Regs + Drop> DevPort<R> {
         ensures wakes { Wakes self.new.bank }
         ensures spends { Spends 1 self.old.bank self.new.bank }
     {
-        self.write_listed(GINTSTS, RESET_BITS);
+        self.write_listed(GINTSTS, reset_bits());
     }
 
     /// Both directions of one endpoint answer NAK and are disabled and closed.
@@ -108,8 +108,8 @@ impl<R: Regs + Drop> DevPort<R> {
         ensures joint { joint self.new ≡ with_table (joint self.old) (interrupts_cleared self.old.bank.table x) }
         ensures spends { Spends 2 self.old.bank self.new.bank }
     {
-        self.clear_in_interrupts(x, ALL_IN_INTERRUPTS);
-        self.clear_out_interrupts(x, ALL_OUT_INTERRUPTS);
+        self.clear_in_interrupts(x, all_in_interrupts());
+        self.clear_out_interrupts(x, all_out_interrupts());
     }
 
     #[tactic(auto, unfolding(device_relation::specs::Run::all_cleared))]

@@ -8,7 +8,7 @@ ghost use Rattle.device_relation.specs.Run.{with_table, words_written, packet_lo
 ghost use Rattle.dwc2_device.specs.Driver.{joint, Has, Spends};
 
 use crate::DevPort;
-use crate::words::{CNAK, CNAK_EPENA, SNAK_EPENA, XFRC};
+use crate::words::{CNAK, CNAK_EPENA, SNAK_EPENA, xfrc};
 use device_relation::{Heard, Ready};
 use dwc2_access::Regs;
 use dwc2_regs::{DIEPTSIZ0, fifo_window, pack_word};
@@ -63,7 +63,7 @@ impl<R: Regs + Drop> DevPort<R> {
         self.write_size(packet.len() as u32);
         self.write_in_control(0, SNAK_EPENA);
         self.write_words(packet);
-        self.clear_in_interrupts(0, XFRC);
+        self.clear_in_interrupts(0, xfrc());
         self.write_in_control(0, CNAK);
     }
 

@@ -1,31 +1,64 @@
 //! Words that the driver writes.
+ghost use Rattle.std.specs.Prelude.{◌≡◌};
+ghost use Rattle.device_relation.specs.Run.{xfrc, all_in_interrupts, all_out_interrupts, reset_bits};
 
-/// DIEPCTLx and DOEPCTLx: SNAK and EPDIS.
-pub const SNAK_EPDIS: u32 = 1 << 27 | 1 << 30;
+use bitflags::Flags;
+use dwc2_regs::{
+    CoreInterrupts, DIEPCTL_CNAK, DIEPCTL_EPDIS, DIEPCTL_EPENA, DIEPCTL_SNAK, DIEPCTL_STALL,
+    EndpointInterrupts, GRSTCTL_TXFFLSH, GRSTCTL_TXFNUM,
+};
+
+/// DIEPCTLx and DOEPCTLx, which have these bits in common: SNAK and EPDIS.
+pub const SNAK_EPDIS: u32 = 1 << DIEPCTL_SNAK.low | 1 << DIEPCTL_EPDIS.low;
 
 /// SNAK and EPENA.
-pub const SNAK_EPENA: u32 = 1 << 27 | 1 << 31;
+pub const SNAK_EPENA: u32 = 1 << DIEPCTL_SNAK.low | 1 << DIEPCTL_EPENA.low;
 
 /// CNAK.
-pub const CNAK: u32 = 1 << 26;
+pub const CNAK: u32 = 1 << DIEPCTL_CNAK.low;
 
 /// CNAK and EPENA.
-pub const CNAK_EPENA: u32 = 1 << 26 | 1 << 31;
+pub const CNAK_EPENA: u32 = 1 << DIEPCTL_CNAK.low | 1 << DIEPCTL_EPENA.low;
 
 /// STALL.
-pub const STALL: u32 = 1 << 21;
-
-/// DIEPINTx and DOEPINTx: XFRC.
-pub const XFRC: u32 = 1;
-
-/// DIEPINTx: XFRC and EPDISD.
-pub const ALL_IN_INTERRUPTS: u32 = 1 | 1 << 1;
-
-/// DOEPINTx: XFRC, EPDISD and STUP.
-pub const ALL_OUT_INTERRUPTS: u32 = 1 | 1 << 1 | 1 << 3;
-
-/// GINTSTS: USBRST and ENUMDNE.
-pub const RESET_BITS: u32 = 1 << 12 | 1 << 13;
+pub const STALL: u32 = 1 << DIEPCTL_STALL.low;
 
 /// GRSTCTL: TXFFLSH of all transmit FIFOs.
-pub const FLUSH_ALL: u32 = 1 << 5 | 16 << 6;
+pub const FLUSH_ALL: u32 = 1 << GRSTCTL_TXFFLSH.low | 16 << GRSTCTL_TXFNUM.low;
+
+/// DIEPINTx and DOEPINTx: XFRC.
+#[inline(always)]
+pub fn xfrc() -> u32
+    ensures { result ≡ xfrc }
+{
+    EndpointInterrupts::XFRC.bits()
+}
+
+/// DIEPINTx: XFRC and EPDISD.
+#[inline(always)]
+pub fn all_in_interrupts() -> u32
+    ensures { result ≡ all_in_interrupts }
+{
+    EndpointInterrupts::XFRC
+        .union(EndpointInterrupts::EPDISD)
+        .bits()
+}
+
+/// DOEPINTx: XFRC, EPDISD and STUP.
+#[inline(always)]
+pub fn all_out_interrupts() -> u32
+    ensures { result ≡ all_out_interrupts }
+{
+    EndpointInterrupts::XFRC
+        .union(EndpointInterrupts::EPDISD)
+        .union(EndpointInterrupts::STUP)
+        .bits()
+}
+
+/// GINTSTS: USBRST and ENUMDNE.
+#[inline(always)]
+pub fn reset_bits() -> u32
+    ensures { result ≡ reset_bits }
+{
+    CoreInterrupts::USBRST.union(CoreInterrupts::ENUMDNE).bits()
+}

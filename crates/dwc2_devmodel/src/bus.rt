@@ -13,8 +13,8 @@ ghost use Rattle.device_table.specs.Write.{emptied};
 ghost use Rattle.device_table.specs.Bus.{hears, hears_setup, hears_out, has_room, is_repeated, after_reset, after_setup, setup_entries, out_entries, out_landed, landed_on_0, after_landing, bus_answer, after_bus, in_acked, out_outcome, in_outcome};
 
 use crate::controller::Controller;
-use dwc2_regs::{DCFG_ADDRESS, get_field};
-use dwc2_state::{OUT_DATA, OUT_DONE, OutEndpoint, SETUP_DATA, SETUP_DONE, pid_of, same_toggle};
+use dwc2_regs::{DCFG_ADDRESS, OUT_DATA, OUT_DONE, SETUP_DATA, SETUP_DONE, get_field};
+use dwc2_state::{OutEndpoint, pid_of, same_toggle};
 use usb_packet::{BusAnswer, BusEvent, Packet, Toggle};
 
 /// What comes of an OUT packet: nothing is heard, NAK, STALL, it is acknowledged and dropped, or it lands.

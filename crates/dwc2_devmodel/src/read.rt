@@ -8,14 +8,15 @@ ghost use Rattle.device_table.specs.State.{out_end, with_out};
 ghost use Rattle.dwc2_state.specs.Place.{register_of, of_core, of_host, of_device, of_channel, of_in, of_out};
 
 use crate::controller::Controller;
+use bitflags::Flags;
 use dwc2_regs::{
-    DAINT_IN, DAINT_OUT, DIEPINT_EPDISD, DIEPINT_XFRC, DOEPINT_EPDISD, DOEPINT_STUP, DOEPINT_XFRC,
-    GINTSTS_ENUMDNE, GINTSTS_IEPINT, GINTSTS_OEPINT, GINTSTS_RXFLVL, GINTSTS_USBRST,
-    GRXSTSP_NUMBER, GRXSTSP_STATUS, get_field, put_field,
+    DAINT_IN, DAINT_OUT, EndpointInterrupts, GINTSTS_ENUMDNE, GINTSTS_IEPINT, GINTSTS_OEPINT,
+    GINTSTS_RXFLVL, GINTSTS_USBRST, GRXSTSP_NUMBER, GRXSTSP_STATUS, OUT_DONE, SETUP_DATA,
+    SETUP_DONE, get_field, put_field,
 };
 use dwc2_state::{
-    ChannelRegister, CoreRegister, DeviceRegister, HostRegister, InEndpoint, InRegister, OUT_DONE,
-    OutEndpoint, OutRegister, Place, SETUP_DATA, SETUP_DONE, bit_at, flag, place_at, with_flag,
+    ChannelRegister, CoreRegister, DeviceRegister, HostRegister, InEndpoint, InRegister,
+    OutEndpoint, OutRegister, Place, bit_at, place_at, with_flag,
 };
 
 impl Controller {
@@ -174,22 +175,26 @@ impl Controller {
     }
 
     // An IN endpoint's bit of DAINT.
+    #[tactic(auto, using(dwc2_regs::proofs::SetLemmas::interrupt_bits))]
     fn in_interrupts(&self, number: u8, end: &InEndpoint) -> bool
         requires { number ≤ 31 }
         ensures { result ≡ in_interrupts self.now number end.now }
     {
-        (end.is_complete() && flag(self.kept.diepmsk, DIEPINT_XFRC))
-            || (end.was_disabled() && flag(self.kept.diepmsk, DIEPINT_EPDISD))
+        let mask = EndpointInterrupts::from_bits_retain(self.kept.diepmsk);
+        (end.is_complete() && mask.contains(EndpointInterrupts::XFRC))
+            || (end.was_disabled() && mask.contains(EndpointInterrupts::EPDISD))
             || (bit_at(self.kept.diepempmsk, number) && end.has_room(number))
     }
 
     // An OUT endpoint's bit of DAINT.
+    #[tactic(auto, using(dwc2_regs::proofs::SetLemmas::interrupt_bits))]
     fn out_interrupts(&self, end: &OutEndpoint) -> bool
         ensures { result ≡ out_interrupts self.now end.now }
     {
-        (end.is_complete() && flag(self.kept.doepmsk, DOEPINT_XFRC))
-            || (end.was_disabled() && flag(self.kept.doepmsk, DOEPINT_EPDISD))
-            || (end.has_setup() && flag(self.kept.doepmsk, DOEPINT_STUP))
+        let mask = EndpointInterrupts::from_bits_retain(self.kept.doepmsk);
+        (end.is_complete() && mask.contains(EndpointInterrupts::XFRC))
+            || (end.was_disabled() && mask.contains(EndpointInterrupts::EPDISD))
+            || (end.has_setup() && mask.contains(EndpointInterrupts::STUP))
     }
 
     fn in_bits(&self) -> u32

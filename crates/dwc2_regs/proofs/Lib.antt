@@ -1,3 +1,4 @@
 pub mod FieldLemmas
 pub mod WordLemmas
 pub mod OffsetLemmas
+pub mod SetLemmas

@@ -195,6 +195,18 @@ pub const GRXSTSP_PID: Field = GRXSTSR_PID;
 /// GRXSTSP: what kind of entry it is.
 pub const GRXSTSP_STATUS: Field = GRXSTSR_STATUS;
 
+/// The kind of an entry of the receive FIFO in device mode: the data of an OUT packet.
+pub const OUT_DATA: u32 = 2;
+
+/// The end of an OUT packet.
+pub const OUT_DONE: u32 = 3;
+
+/// The end of a SETUP.
+pub const SETUP_DONE: u32 = 4;
+
+/// The data of a SETUP.
+pub const SETUP_DATA: u32 = 6;
+
 /// GRXFSIZ: depth in words.
 pub const GRXFSIZ_DEPTH: Field = bits!(15..0);
 

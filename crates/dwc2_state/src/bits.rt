@@ -6,18 +6,6 @@ ghost use Rattle.device_table.specs.Read.{bit_at};
 use dwc2_regs::{Field, get_field, put_field};
 use usb_packet::Toggle;
 
-/// What kind of entry of the receive FIFO it is (GRXSTSP, the status field): the data of an OUT packet.
-pub const OUT_DATA: u32 = 2;
-
-/// The end of an OUT packet.
-pub const OUT_DONE: u32 = 3;
-
-/// The end of a SETUP.
-pub const SETUP_DONE: u32 = 4;
-
-/// The data of a SETUP.
-pub const SETUP_DATA: u32 = 6;
-
 /// Whether a field of one bit is 1.
 pub fn flag(word: u32, field: Field) -> bool
     requires width { 1 ≤ field.width }

@@ -11,10 +11,11 @@ ghost use Rattle.dwc2_state.specs.Ends.{in_written};
 use crate::bits::{flag, flipped, with_flag};
 use crate::control::ControlRegister;
 use crate::place::InRegister;
+use bitflags::Flags;
 use dwc2_fifo::TxFifo;
 use dwc2_regs::{
     DIEPCTL_EPDIS, DIEPCTL_SD0PID, DIEPINT_EPDISD, DIEPINT_TXFE, DIEPINT_XFRC, DIEPTSIZ_COUNT,
-    DIEPTSIZ_SIZE, DIEPTSIZ0_COUNT, DIEPTSIZ0_SIZE, get_field, put_field,
+    DIEPTSIZ_SIZE, DIEPTSIZ0_COUNT, DIEPTSIZ0_SIZE, EndpointInterrupts, get_field, put_field,
 };
 use std::marker::Model;
 use usb_packet::{Packet, Toggle};
@@ -164,16 +165,22 @@ impl InEndpoint {
     {
         match register {
             InRegister::Control => self.write_control(cnak_acts, word),
-            InRegister::Interrupts => {
-                self.xfrc = self.xfrc && !flag(word, DIEPINT_XFRC);
-                self.epdisd = self.epdisd && !flag(word, DIEPINT_EPDISD);
-            }
+            InRegister::Interrupts => self.clear_interrupts(word),
             InRegister::Size => {
                 self.tsiz = word;
                 self.to_come = transfer_size(number, word);
             }
             InRegister::Space => {}
         }
+    }
+
+    #[tactic(auto, using(dwc2_regs::proofs::SetLemmas::interrupt_bits))]
+    fn clear_interrupts(&mut self, word: u32)
+        ensures { self.new ≡ in_interrupts_written self.old word }
+    {
+        let cleared = EndpointInterrupts::from_bits_retain(word);
+        self.xfrc = self.xfrc && !cleared.contains(EndpointInterrupts::XFRC);
+        self.epdisd = self.epdisd && !cleared.contains(EndpointInterrupts::EPDISD);
     }
 
     fn write_control(&mut self, cnak_acts: bool, word: u32)

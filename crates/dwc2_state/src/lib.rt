@@ -12,10 +12,7 @@ mod out_endpoint;
 mod place;
 mod registers;
 
-pub use bits::{
-    OUT_DATA, OUT_DONE, SETUP_DATA, SETUP_DONE, bit_at, flag, flipped, pid_of, same_toggle,
-    with_flag,
-};
+pub use bits::{bit_at, flag, flipped, pid_of, same_toggle, with_flag};
 pub use control::ControlRegister;
 pub use in_endpoint::InEndpoint;
 pub use out_endpoint::OutEndpoint;

@@ -2,14 +2,17 @@ ghost use Rattle.std.specs.Prelude.{◌≡◌, true};
 ghost use Rattle.usb_packet.specs.declared.bus.Toggle.TheVariants.{D1};
 ghost use Rattle.device_table.specs.State.{no_out_end};
 ghost use Rattle.device_table.specs.Read.{doepint_word};
-ghost use Rattle.device_table.specs.Write.{out_control_written};
+ghost use Rattle.device_table.specs.Write.{out_control_written, out_interrupts_written};
 ghost use Rattle.device_table.specs.Bus.{control_at_setup, out_landed};
 ghost use Rattle.dwc2_state.specs.Ends.{out_written};
 
 use crate::bits::{flag, flipped, with_flag};
 use crate::control::ControlRegister;
 use crate::place::OutRegister;
-use dwc2_regs::{DIEPCTL_EPDIS, DIEPCTL_SD0PID, DOEPINT_EPDISD, DOEPINT_STUP, DOEPINT_XFRC};
+use bitflags::Flags;
+use dwc2_regs::{
+    DIEPCTL_EPDIS, DIEPCTL_SD0PID, DOEPINT_EPDISD, DOEPINT_STUP, DOEPINT_XFRC, EndpointInterrupts,
+};
 use std::marker::Model;
 use usb_packet::Toggle;
 
@@ -104,13 +107,19 @@ impl OutEndpoint {
     {
         match register {
             OutRegister::Control => self.write_control(cnak_acts, word),
-            OutRegister::Interrupts => {
-                self.xfrc = self.xfrc && !flag(word, DOEPINT_XFRC);
-                self.epdisd = self.epdisd && !flag(word, DOEPINT_EPDISD);
-                self.stup = self.stup && !flag(word, DOEPINT_STUP);
-            }
+            OutRegister::Interrupts => self.clear_interrupts(word),
             OutRegister::Size => self.tsiz = word,
         }
+    }
+
+    #[tactic(auto, using(dwc2_regs::proofs::SetLemmas::interrupt_bits))]
+    fn clear_interrupts(&mut self, word: u32)
+        ensures { self.new ≡ out_interrupts_written self.old word }
+    {
+        let cleared = EndpointInterrupts::from_bits_retain(word);
+        self.xfrc = self.xfrc && !cleared.contains(EndpointInterrupts::XFRC);
+        self.epdisd = self.epdisd && !cleared.contains(EndpointInterrupts::EPDISD);
+        self.stup = self.stup && !cleared.contains(EndpointInterrupts::STUP);
     }
 
     fn write_control(&mut self, cnak_acts: bool, word: u32)

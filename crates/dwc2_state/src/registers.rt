@@ -7,9 +7,10 @@ ghost use Rattle.device_table.specs.Write.{gintsts_written, hprt_written, hcchar
 
 use crate::bits::{flag, with_flag};
 use crate::place::ChannelRegister;
+use bitflags::Flags;
 use dwc2_regs::{
-    GINTSTS_ENUMDNE, GINTSTS_USBRST, HCCHAR_CHDIS, HCCHAR_CHENA, HPRT_PCDET, HPRT_PCSTS, HPRT_PENA,
-    HPRT_PENCHNG, put_field,
+    CoreInterrupts, HCCHAR_CHDIS, HCCHAR_CHENA, HPRT_PCDET, HPRT_PCSTS, HPRT_PENA, HPRT_PENCHNG,
+    put_field,
 };
 use std::marker::Model;
 use usb_packet::Toggle;
@@ -49,13 +50,15 @@ impl CoreState {
     }
 
     /// GINTSTS is written. Clearing USBRST wakes the device.
+    #[tactic(auto, using(dwc2_regs::proofs::SetLemmas::interrupt_bits))]
     pub fn write_interrupts(&mut self, word: u32)
         ensures { self.new ≡ gintsts_written self.old word }
     {
-        let clears_reset = flag(word, GINTSTS_USBRST);
+        let cleared = CoreInterrupts::from_bits_retain(word);
+        let clears_reset = cleared.contains(CoreInterrupts::USBRST);
         self.awake = self.awake || (self.usbrst && clears_reset);
         self.usbrst = self.usbrst && !clears_reset;
-        self.enumdne = self.enumdne && !flag(word, GINTSTS_ENUMDNE);
+        self.enumdne = self.enumdne && !cleared.contains(CoreInterrupts::ENUMDNE);
     }
 }
 
