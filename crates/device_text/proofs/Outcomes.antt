@@ -23,7 +23,7 @@ use Rattle.usb_text.proofs.Spelling.{same_schedule, same_head}
 use Rattle.usb_text.proofs.Heads.{head_again}
 use Rattle.usb_text.proofs.Kept.{text_keeps, head_text_keeps}
 use Rattle.device_text.specs.Job.{Job, Spells, GoOn, IsAccepted, last_after, follows, in_order, is_whole, ends_head, set_fault, head_lines, schedule_line, schedule_text, front_text, end_line, given, most_bytes}
-use Rattle.device_text.specs.Outcome.{Front, Breaks, RefusesLine, RefusesSet, EndsShort, PassesLimit, Outcome, Whole, BadLine, BadSet, Short, TooLong, IsOutcome}
+use Rattle.device_text.specs.Outcome.{Front, Breaks, RefusesLine, RefusesSet, EndsShort, PassesLimit, Outcome, Whole, BadLine, BadSet, Short, TooLong, IsOutcome, EndsInHead}
 use Rattle.device_text.proofs.Closed.{cut_line, plain_rest, no_newline}
 
 -- the first line of what is left
@@ -356,3 +356,37 @@ one_outcome input a b ha hb =
     by_heads input a b r q (heads_align [] r.head q.head (schedule_text r.schedule ++ r.rest) (schedule_text q.schedule ++ q.rest) r.front.lines q.front.lines
     (sym (append_assoc (head_lines r.head) (schedule_text r.schedule) r.rest) ∙ sym r.front.text ∙ q.front.text
     ∙ append_assoc (head_lines q.head) (schedule_text q.schedule) q.rest))
+
+-- what ends in the head is an outcome
+pub in_head_is : (input : List ℕ) (o : Outcome) → EndsInHead input o → IsOutcome input o
+in_head_is input (Whole job) h = absurd h
+in_head_is input (BadLine line rule) h = h.0
+in_head_is input (BadSet fault) h = h
+in_head_is input (Short lines) h = h.0
+in_head_is input TooLong h = absurd h
+
+unequal : (b : Bool) → b ≡ false → b ≡ true → ⊥
+unequal b h k = let no : true ≡ false = sym k ∙ h in cc (no)
+
+-- its head isn't whole with an accepted set
+head_open : (input : List ℕ) (o : Outcome) (h : EndsInHead input o) → IsAccepted (reading input o (in_head_is input o h)).head → ⊥
+unfolding reading in_head_is
+head_open input (Whole job) h ok = h
+head_open input (BadLine line rule) h ok = unequal (is_whole h.0.head) h.1 ok.whole
+head_open input (BadSet fault) h ok = let no : None ≡ Some fault = sym ok.set ∙ h.broken in cc (no)
+head_open input (Short lines) h ok = unequal (is_whole h.0.head) h.1 ok.whole
+head_open input TooLong h ok = h
+
+-- bytes that begin with a whole head with an accepted set have no outcome in the head
+pub not_in_head : (input : List ℕ) (head : List HeadLine) (schedule : List DevLine) (rest : List ℕ) → Front input head schedule rest → IsAccepted head
+    → (o : Outcome) → EndsInHead input o → ⊥
+not_in_head input head schedule rest f ok o h = apart (heads_align [] r.head head (schedule_text r.schedule ++ r.rest) (schedule_text schedule ++ rest) r.front.lines f.lines
+    (sym (append_assoc (head_lines r.head) (schedule_text r.schedule) r.rest) ∙ sym r.front.text ∙ f.text
+    ∙ append_assoc (head_lines head) (schedule_text schedule) rest)) where
+      r : Reading input o
+      r = reading input o (in_head_is input o h)
+
+      apart : Heads [] r.head head (schedule_text r.schedule ++ r.rest) (schedule_text schedule ++ rest) → ⊥
+      apart (Same e same_rest) = head_open input o h (subst IsAccepted (sym e) ok)
+      apart (First line more fits order e) = stays_in_head input o r line more fits order e
+      apart (Second line more fits order e) = unequal (is_whole head) (unfinished head line order) ok.whole

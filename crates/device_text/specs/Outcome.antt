@@ -93,3 +93,11 @@ IsOutcome input (BadLine line rule) = RefusesLine input line rule
 IsOutcome input (BadSet fault) = RefusesSet input fault
 IsOutcome input (Short lines) = EndsShort input lines
 IsOutcome input TooLong = PassesLimit input
+
+-- a reading that ends in the head, or at its set: nothing was answered yet
+abbrev pub EndsInHead : List ℕ → Outcome → Type 0
+EndsInHead input (Whole job) = ⊥
+EndsInHead input (BadLine line rule) = (r : RefusesLine input line rule) × (is_whole r.head ≡ false)
+EndsInHead input (BadSet fault) = RefusesSet input fault
+EndsInHead input (Short lines) = (s : EndsShort input lines) × (is_whole s.head ≡ false)
+EndsInHead input TooLong = ⊥

@@ -4,7 +4,7 @@ use Rattle.usb_edge.specs.declared.stream.Got.{Got}
 use Rattle.usb_edge.specs.declared.stream.Got.TheVariants as got
 use Rattle.usb_edge.specs.declared.stream.Wrote.{Wrote}
 use Rattle.usb_edge.specs.declared.stream.Wrote.TheVariants as wrote
-use Rattle.usb_edge.specs.Memory.{counted}
+use Rattle.usb_edge.specs.Stream.{counted}
 
 -- a read: so many bytes, the end where there are none, and a failure at an error
 abbrev pub got_of : {E : Type 0} → Result ℕ E → Got
@@ -22,7 +22,3 @@ abbrev pub faults_at_read : Got → ℕ → ℕ
 faults_at_read (got.Bytes n) faults = faults
 faults_at_read got.End faults = faults
 faults_at_read got.Failed faults = counted faults
-
-abbrev pub faults_at_write : Wrote → ℕ → ℕ
-faults_at_write (wrote.Bytes n) faults = faults
-faults_at_write wrote.Failed faults = counted faults

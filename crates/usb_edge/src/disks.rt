@@ -1,4 +1,4 @@
-ghost use Rattle.std.specs.Prelude.{ℕ};
+ghost use Rattle.std.specs.Prelude.{◌≡◌, ℕ};
 
 /// The disks of the program. They have no calls yet, only a count of faults.
 pub trait Disks {
@@ -14,7 +14,9 @@ pub struct FileDisks {
 
 impl FileDisks {
     /// No file is attached, and none has failed.
-    pub fn new() -> FileDisks {
+    pub fn new() -> FileDisks
+        ensures { result ≡ record { faults = 0 } }
+    {
         FileDisks { faults: 0 }
     }
 }

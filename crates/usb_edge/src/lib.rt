@@ -10,7 +10,7 @@ mod system;
 pub use disks::{Disks, FileDisks};
 pub use memory::{MemSink, MemSource};
 pub use real::{NoSink, StderrSink, StdinSource, StdoutSink};
-pub use stream::{Got, Sink, Source, Wrote};
+pub use stream::{Got, MOST_TEXT, Sink, Source, Text, Wrote};
 
 #[cfg(test)]
 mod tests;

@@ -1,7 +1,7 @@
 ghost use Rattle.std.specs.Prelude.{◌≡◌, ℕ, ◌+◌, ◌-◌, ◌^◌, ◌<◌, ◌≤◌, ◌↔◌, List, [], ◌++◌, Some, IfOk, length, take, drop, ◌⊎◌, vec_len, vec_capacity, Contains};
-ghost use Rattle.usb_edge.specs.Stream.{Reads, Takes, Rose, IsAtEnd, last_count};
-ghost use Rattle.usb_edge.specs.Outcome.{IfGot, IfWrote};
-ghost use Rattle.usb_edge.specs.Memory.{Tape, Page, counted};
+ghost use Rattle.usb_edge.specs.Stream.{Reads, Takes, Rose, IsAtEnd, last_count, counted};
+ghost use Rattle.usb_edge.specs.Outcome.{IfGot, IfWrote, faults_at_write};
+ghost use Rattle.usb_edge.specs.Memory.{Tape, Page};
 
 use crate::stream::{Got, Sink, Source, Wrote};
 use std::alloc::{AllocError, Global};
@@ -142,7 +142,7 @@ impl Sink for MemSink {
         ensures unchanged { result ≡ Wrote.Failed → self.new.taken ≡ self.old.taken }
         ensures calls { self.new.calls ≡ counted self.old.calls }
         ensures stays { (self.new.fails ≡ self.old.fails) × (self.new.room ≡ self.old.room) }
-        ensures rose { result ≡ Wrote.Failed → self.new.faults ≡ counted self.old.faults }
+        ensures exact { self.new.faults ≡ faults_at_write result self.old.faults }
         ensures count { self.old.faults ≤ self.new.faults }
         ensures last { self.new.faults ≤ last_count }
     {

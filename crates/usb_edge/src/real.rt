@@ -1,6 +1,6 @@
-ghost use Rattle.std.specs.Prelude.{◌≡◌, ◌<◌, None, length};
+ghost use Rattle.std.specs.Prelude.{◌≡◌, ◌<◌, None, IsTrue, length};
 
-use crate::stream::{Got, Sink, Source, Wrote};
+use crate::stream::{Got, Sink, Source, Text, Wrote};
 use crate::system::{read_from, write_to};
 use std::io::{Stderr, Stdin, Stdout};
 
@@ -99,7 +99,16 @@ impl Sink for NoSink {
         Wrote::Bytes(bytes.len())
     }
 
-    fn drops_all(&self) -> bool {
+    fn write_all(&mut self, bytes: &[u8]) -> usize
+        ensures { result ≡ length bytes.now }
+    {
+        bytes.len()
+    }
+
+    fn tell<X: Text>(&mut self, item: &X) -> bool
+        ensures { IsTrue result }
+    {
+        let _ = item;
         true
     }
 }

@@ -1,8 +1,8 @@
 ghost use Rattle.std.specs.Prelude.{◌≡◌, ℕ, ◌<◌, ◌≤◌, length, take};
 ghost use Rattle.std.specs.Io.KnownBytes.{Consumes, Appends, Keeps, IsAtEnd};
 ghost use Rattle.usb_edge.specs.Stream.{Rose, last_count};
-ghost use Rattle.usb_edge.specs.Outcome.{IfGot, IfWrote};
-ghost use Rattle.usb_edge.specs.System.{got_of, wrote_of, faults_at_read, faults_at_write};
+ghost use Rattle.usb_edge.specs.Outcome.{IfGot, IfWrote, faults_at_write};
+ghost use Rattle.usb_edge.specs.System.{got_of, wrote_of, faults_at_read};
 
 use crate::stream::{Got, Wrote};
 use std::io::{self, Read, Write};
@@ -25,6 +25,7 @@ pub fn read_from<R: Read>(from: &mut R, buf: &mut [u8], faults: &mut u64) -> Got
 pub fn write_to<W: Write>(to: &mut W, bytes: &[u8], faults: &mut u64) -> Wrote
     ensures bytes { IfWrote result (λ n. (0 < n) × (n ≤ length bytes.now) × Appends (W.contents to.old) (W.contents to.new) (take n bytes.now)) }
     ensures failed { result ≡ Wrote.Failed → Rose faults.old faults.new }
+    ensures exact { faults.new ≡ faults_at_write result faults.old }
     ensures count { faults.old ≤ faults.new }
     ensures last { faults.new ≤ last_count }
 {

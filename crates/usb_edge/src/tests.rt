@@ -1,4 +1,9 @@
-use crate::{Got, MemSink, MemSource, NoSink, Sink, Source, StderrSink, StdoutSink, Wrote};
+ghost use Rattle.std.specs.Prelude.{[], ◌∷◌};
+
+use crate::{
+    Got, MOST_TEXT, MemSink, MemSource, NoSink, Sink, Source, StderrSink, StdoutSink, Text, Wrote,
+};
+use arrayvec::ArrayVec;
 use std::test::Fail;
 
 /// What is left, in pieces of two bytes, where the third call fails.
@@ -49,16 +54,40 @@ fn real_sinks(rt: HostRuntime) {
     );
 }
 
-/// What is dropped is taken whole, and that it is dropped is said.
+/// What is dropped is taken whole.
 #[test]
 fn nothing_kept(rt: HostRuntime) {
     let mut sink = NoSink::new();
     assert_eq!(rt; write_once(&mut sink, &[1, 2, 3]), Wrote::Bytes(3));
     assert_eq!(rt; write_once(&mut sink, &[4, 5, 6]), Wrote::Bytes(3));
-    assert!(rt; is_dropped(&sink));
-    assert!(rt; !is_dropped(&StdoutSink::new(rt.stdout())));
+    assert!(rt; tell_once(&mut sink, &Byte { byte: 7 }));
 }
 
-fn is_dropped<K: Sink>(sink: &K) -> bool {
-    sink.drops_all()
+/// A text of one byte.
+struct Byte {
+    byte: u8,
+}
+
+impl Text for Byte {
+    ghost text = { λ b. b.byte ∷ [] };
+
+    fn put(&self, to: &mut ArrayVec<u8, MOST_TEXT>) {
+        to.push(self.byte);
+    }
+}
+
+fn tell_once<K: Sink, X: Text>(sink: &mut K, item: &X) -> bool {
+    sink.tell(item)
+}
+
+/// A sink in memory is told a text by writing it.
+#[test]
+fn texts_in_memory(rt: HostRuntime) -> Result<(), Fail> {
+    let fails = [2].to_vec(rt.alloc())?;
+    let mut sink = MemSink::new(rt.alloc(), 4, fails)?;
+    assert!(rt; tell_once(&mut sink, &Byte { byte: 7 }));
+    assert!(rt; !tell_once(&mut sink, &Byte { byte: 8 }));
+    assert!(rt; tell_once(&mut sink, &Byte { byte: 9 }));
+    assert_eq!(rt; sink.bytes(), [7, 9].as_slice());
+    Ok(())
 }

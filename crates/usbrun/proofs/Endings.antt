@@ -1,12 +1,13 @@
 -- From the head and the schedule to how the program ends.
 use Rattle.std.proofs.Common.{◌≡◌, ℕ, ◌+◌, ◌≤◌, List, [], ◌∷◌, ◌++◌, Bool, true, false, length, refl, ap, sym, ◌∙◌, subst, append_assoc, arith, Option, Some, None, inl, inr, ◌⊎◌, map, get_or, Bor, is_some}
-use Rattle.std.proofs.lemmas.List.{append-nil}
+use Rattle.std.proofs.lemmas.List.{append-nil, map-append}
+use Rattle.std.proofs.lemmas.List.Concat.{flat_map-append}
 use Rattle.std.specs.Str.{bytes_eq}
 use Rattle.std.specs.List.{AllByRecursion, flat_map}
 use Rattle.std.specs.Option.{option_map}
 use Rattle.std.proofs.lemmas.Slice.Eq.{bytes_eq-Decides}
-use Rattle.usb_edge.specs.Stream.{Reads, Takes, Rose, IsAtEnd}
-use Rattle.usb_edge.proofs.Streams.{takes-nothing, rose_within}
+use Rattle.usb_edge.specs.Stream.{Reads, Takes, Rose, IsAtEnd, counted}
+use Rattle.usb_edge.proofs.Streams.{takes-nothing}
 use Rattle.arrayvec.specs.ArrayVec.{ArrayVec}
 use Rattle.usb_descriptor.specs.declared.strings.StringPart.{StringPart}
 use Rattle.usb_descriptor.specs.Strings.{string_descriptor}
@@ -17,6 +18,7 @@ use Rattle.device_line.specs.declared.line.DevLine.{DevLine}
 use Rattle.usb_text.specs.declared.head.HeadLine.{HeadLine}
 use Rattle.usb_text.specs.Line.{newline, schedule_text_of, IsDeviceLine}
 use Rattle.usb_text.specs.Plain.{is_plain}
+use Rattle.device_schedule.specs.Schedule.{answers}
 use Rattle.device_text.specs.Answers.{answer_line}
 use Rattle.device_schedule.specs.Turns.{Turn, IsTrace}
 use Rattle.device_text.specs.Trace.{trace_text}
@@ -28,12 +30,12 @@ use Rattle.job_reader.specs.Stream.{bytes_left}
 use Rattle.usbrun.specs.Stream.{Hands}
 use Rattle.job_reader.specs.Lines.{Gone, IsCut}
 use Rattle.job_reader.specs.Head.{new_lines, BreaksHead, HeadSoFar, HeadStops}
-use Rattle.usbrun.specs.Session.{Runs}
-use Rattle.usbrun.specs.Finish.{Finishes, head_status, stop_status}
-use Rattle.usbrun.specs.Texts.{Took, HandsTold, HandsBoth, AreEmpty, OneRose, out_text, texts_of}
+use Rattle.usbrun.specs.Session.{Runs, IsHalt, out_faults, trace_faults}
+use Rattle.usbrun.specs.Finish.{Closes, Finishes, head_status, stop_status}
+use Rattle.usbrun.specs.Texts.{both, HandsOut, out_text, texts_of}
 use Rattle.usbrun.specs.Read.{Told, ToldBoth, ReadSoFar, Begins, HasHead}
-use Rattle.usbrun.specs.Written.{Ways, ways, Writes, TakesFront, WritesFront, WritesNothing, program_text}
-use Rattle.usbrun.specs.Top.{Ends}
+use Rattle.usbrun.specs.Written.{Ways, ways, Writes, WritesFront, WritesNothing}
+use Rattle.usbrun.specs.Top.{Ends, OneRose, NoFault, Faults}
 use Rattle.job_reader.specs.declared.lines.Lines.{Lines}
 use Rattle.job_reader.specs.declared.draft.Draft.{Draft}
 use Rattle.job_reader.specs.declared.head.NoHead.{NoHead}
@@ -46,7 +48,7 @@ use Rattle.usbrun.specs.declared.status.Status.{Status}
 use Rattle.usbrun.specs.declared.status.Status.TheVariants as status
 use Rattle.job_reader.proofs.Gone.{gone_more, gone_closed, gone_given, gone_cut}
 use Rattle.job_reader.proofs.Drafts.{accepts_in_order, rank_most}
-use Rattle.usbrun.proofs.Handed.{both_more}
+use Rattle.usbrun.proofs.Handed.{out_more, trace_text-append}
 
 -- what holds of the bytes that were read and of those that are left holds of what the source had
 told : (left left' : Option (List ℕ)) (bytes : List ℕ) (P : List ℕ → Type 0) → Reads left left' bytes → P (bytes ++ bytes_left left') → Told left P
@@ -129,20 +131,20 @@ module _ (draft : Draft) (left left' : Option (List ℕ)) (new : Lines) (h : Hea
         made d c s r = record { device = d; config = c; strings = map string_descriptor s; report = r }
 
 module _ (draft : Draft) (left left' : Option (List ℕ)) (new : Lines) (h : HeadSoFar draft left left' new_lines new) (ends : new.ended ≡ true → IsAtEnd left')
-    (regs : Bool) (reads reads' writes marks : ℕ) (taken traced : Option (List ℕ)) where
+    (regs : Bool) (faults faults' out trace : ℕ) (taken traced : Option (List ℕ)) where
   -- a run in which nothing is written
   abbrev no_ways : Ways
-  no_ways = ways left left' reads reads' taken taken writes writes traced traced marks marks
+  no_ways = ways left left' faults faults' taken taken out out traced traced trace trace
 
   no_text : Writes regs h.heads [] no_ways
   no_text = record {
     turns = [];
     is_trace = record { lines = refl; answers = refl; run = tt };
     trace = takes-nothing traced;
-    answers = refl;
+    told = refl;
     out = by_way regs;
   } where
-    by_way : (b : Bool) → Takes taken taken (program_text b (set_of h.heads) [] [])
+    by_way : (b : Bool) → Takes taken taken (out_text b [] [])
     by_way true = takes-nothing taken
     by_way false = takes-nothing taken
 
@@ -188,7 +190,7 @@ module _ (draft : Draft) (left left' : Option (List ℕ)) (new : Lines) (h : Hea
         no_text,
       )
 
-  pub fault_ends : is_whole h.heads ≡ false → Rose reads reads' → IsCut new → Ends status.ReadFault regs no_ways
+  pub fault_ends : is_whole h.heads ≡ false → Rose faults faults' → IsCut new → Ends status.ReadFault regs no_ways
   fault_ends going rose cut = (
     rose,
     told_both left left' g.got (λ input rest. (b : ReadSoFar input rest) × Writes regs b.head b.schedule no_ways) g.reads (
@@ -234,203 +236,268 @@ module _ (draft : Draft) (left left' : Option (List ℕ)) (new : Lines) (h : Hea
   )
 
 -- a head that isn't whole
-pub head_ends : (e : NoHead) (left left' : Option (List ℕ)) (regs : Bool) (reads reads' writes marks : ℕ) (taken traced : Option (List ℕ)) (new : Lines)
-    → HeadStops e left left' reads reads' new_lines new → (new.ended ≡ true → IsAtEnd left')
-    → Ends (head_status e new.lines) regs (ways left left' reads reads' taken taken writes writes traced traced marks marks)
-head_ends (no.Refused rule) left left' regs reads reads' writes marks taken traced new h ends =
-    refused_ends h.draft left left' new h.so_far ends regs reads reads' writes marks taken traced rule h.cause.0 h.cause.1 h.unfinished h.cause.2 h.cause.3 h.cause.4
-head_ends no.Short left left' regs reads reads' writes marks taken traced new h ends =
-    short_ends h.draft left left' new h.so_far ends regs reads reads' writes marks taken traced h.unfinished h.cause
-head_ends no.ReadFault left left' regs reads reads' writes marks taken traced new h ends =
-    fault_ends h.draft left left' new h.so_far ends regs reads reads' writes marks taken traced h.unfinished h.cause (h.cut refl)
+pub head_ends : (e : NoHead) (left left' : Option (List ℕ)) (regs : Bool) (faults faults' out trace : ℕ) (taken traced : Option (List ℕ)) (new : Lines)
+    → HeadStops e left left' faults faults' new_lines new → (new.ended ≡ true → IsAtEnd left')
+    → Ends (head_status e new.lines) regs (ways left left' faults faults' taken taken out out traced traced trace trace)
+head_ends (no.Refused rule) left left' regs faults faults' out trace taken traced new h ends =
+    refused_ends h.draft left left' new h.so_far ends regs faults faults' out trace taken traced rule h.cause.0 h.cause.1 h.unfinished h.cause.2 h.cause.3 h.cause.4
+head_ends no.Short left left' regs faults faults' out trace taken traced new h ends =
+    short_ends h.draft left left' new h.so_far ends regs faults faults' out trace taken traced h.unfinished h.cause
+head_ends no.ReadFault left left' regs faults faults' out trace taken traced new h ends =
+    fault_ends h.draft left left' new h.so_far ends regs faults faults' out trace taken traced h.unfinished h.cause (h.cut refl)
 
--- one of two counts rose within a longer time
-one_within : (a b c d a' b' c' d' : ℕ) → a ≤ b → c ≤ d → a' ≤ b' → c' ≤ d' → OneRose b c b' c' → OneRose a d a' d'
-one_within a b c d a' b' c' d' h k h' k' (inl r) = inl (rose_within a b c d h r k)
-one_within a b c d a' b' c' d' h k h' k' (inr r) = inr (rose_within a' b' c' d' h' r k')
+-- no sink fails in it
+pub head_faults : (e : NoHead) (lines : ℕ) (w : Ways) → NoFault w → Faults (head_status e lines) w
+head_faults (no.Refused rule) lines w h = h
+head_faults no.Short lines w h = h
+head_faults no.ReadFault lines w h = h
 
 -- all of a text was taken, or its front
 all_taken : (a b : Option (List ℕ)) (text waiting : List ℕ) → Hands a b text waiting → waiting ≡ [] → Takes a b text
 all_taken a b text waiting h none = subst (Takes a b) (sym (h.joined ∙ ap (λ x. h.given ++ x) none ∙ append-nil h.given)) h.takes
 
-front_taken : (a b : Option (List ℕ)) (text waiting : List ℕ) → Hands a b text waiting → TakesFront a b text
-front_taken a b text waiting h = record { given = h.given; more = waiting; text_is = h.joined; takes = h.takes }
+-- a trace that has the text of all lines
+all_told : (a b : Option (List ℕ)) (done rest : List Turn) (given more : List ℕ) → rest ≡ [] → trace_text rest ≡ given ++ more
+    → Takes a b (trace_text done ++ given) → Takes a b (trace_text (done ++ rest))
+all_told a b done [] [] more none part h = subst (λ (x : List Turn). Takes a b (trace_text x)) (sym (append-nil done)) (subst (Takes a b) (append-nil (trace_text done)) h)
+all_told a b done [] (x ∷ xs) more none part h = absurd (cc (part))
+all_told a b done (r ∷ rs) given more none part h = absurd (cc (none))
 
--- the same of a sink that may not tell
-all_told : (a b : Option (List ℕ)) (text waiting : List ℕ) → HandsTold a b text waiting → waiting ≡ [] → Takes a b text
-all_told (Some a) b text waiting h none = all_taken (Some a) b text waiting h none
-all_told None None text waiting h none = tt
-all_told None (Some b) text waiting h none = absurd (cc (h))
+-- the output's text of the first lines, in front of that of all
+out_part_of : (regs : Bool) (set : Set) (schedule : List DevLine) (turns done rest : List Turn) → IsTrace set schedule turns → turns ≡ done ++ rest
+    → (more : List ℕ) × (out_text regs turns (answers set schedule) ≡ (texts_of regs done).out ++ more)
+out_part_of true set schedule turns done rest h e = (trace_text rest, ap trace_text e ∙ trace_text-append done rest)
+out_part_of false set schedule turns done rest h e = (
+  flat_map answer_line (map (λ turn. turn.answer) rest),
+  ap (flat_map answer_line) (sym h.answers ∙ ap (map (λ turn. turn.answer)) e ∙ map-append (λ turn. turn.answer) done rest)
+      ∙ flat_map-append answer_line (map (λ turn. turn.answer) done) (map (λ turn. turn.answer) rest),
+)
 
-front_told : (a b : Option (List ℕ)) (text waiting : List ℕ) → HandsTold a b text waiting → TakesFront a b text
-front_told (Some a) b text waiting h = front_taken (Some a) b text waiting h
-front_told None None text waiting h = record { given = []; more = text; text_is = refl; takes = tt }
-front_told None (Some b) text waiting h = absurd (cc (h))
+-- and where there are no others
+out_is : (regs : Bool) (set : Set) (schedule : List DevLine) (turns done rest : List Turn) → IsTrace set schedule turns → turns ≡ done ++ rest → rest ≡ []
+    → (texts_of regs done).out ≡ out_text regs turns (answers set schedule)
+out_is regs set schedule turns done rest h e none = by_way regs where
+  same : done ≡ turns
+  same = sym (append-nil done) ∙ ap (λ x. done ++ x) (sym none) ∙ sym e
 
--- the output's text is the program's
-out_is : (regs : Bool) (set : Set) (schedule : List DevLine) (turns : List Turn) → IsTrace set schedule turns
-    → out_text regs turns ≡ program_text regs set schedule turns
-out_is true set schedule turns h = refl
-out_is false set schedule turns h = ap (flat_map answer_line) h.answers
+  by_way : (b : Bool) → (texts_of b done).out ≡ out_text b turns (answers set schedule)
+  by_way true = ap trace_text same
+  by_way false = ap (λ (x : List Turn). flat_map answer_line (map (λ turn. turn.answer) x)) same ∙ ap (flat_map answer_line) h.answers
 
 module _ (left0 left1 left2 : Option (List ℕ)) (draft : Draft) (l1 : Lines) (h : HeadSoFar draft left0 left1 new_lines l1) (ok : IsAccepted h.heads)
-    (took0 took1 took2 : Took) (s s' : Session) (regs : Bool) (starts : s.lines ≡ l1) (has_regs : s.texts.regs ≡ regs) (has_set : s.run.set ≡ set_of h.heads)
-    (ends : s'.lines.ended ≡ true → IsAtEnd left2) (reads reads' writes0 writes2 marks0 marks2 : ℕ) where
+    (taken0 taken1 taken2 traced0 traced1 : Option (List ℕ)) (s s' : Session) (regs : Bool) (starts : s.lines ≡ l1) (has_regs : s.texts.regs ≡ regs)
+    (has_set : s.run.set ≡ set_of h.heads) (ends : s'.lines.ended ≡ true → IsAtEnd left2) (faults faults' out0 out2 trace0 trace1 : ℕ)
+    (r : Stop) (u : Runs r left1 left2 (both taken0 traced0) (both taken1 traced1) s s') (waiting : Texts) (k : HandsOut taken1 taken2 s'.texts waiting) where
   abbrev all_ways : Ways
-  all_ways = ways left0 left2 reads reads' took0.out took2.out writes0 writes2 took0.trace took2.trace marks0 marks2
+  all_ways = ways left0 left2 faults faults' taken0 taken2 out0 out2 traced0 traced1 trace0 trace1
 
-  abbrev gone : (r : Stop) (u : Runs r left1 left2 took0 took1 s s') → Gone left0 left2 new_lines s'.lines (front_text h.heads u.lines) (length h.heads + length u.lines)
-  gone r u = gone_more left0 left1 left2 new_lines l1 s'.lines (head_lines h.heads) (schedule_text u.lines) (length h.heads) (length u.lines)
+  abbrev gone : Gone left0 left2 new_lines s'.lines (front_text h.heads u.lines) (length h.heads + length u.lines)
+  gone = gone_more left0 left1 left2 new_lines l1 s'.lines (head_lines h.heads) (schedule_text u.lines) (length h.heads) (length u.lines)
       (closed_heads h.heads) h.gone (subst (λ (l : Lines). Gone left1 left2 l s'.lines (schedule_text u.lines) (length u.lines)) starts u.gone)
 
-  traces : (r : Stop) (u : Runs r left1 left2 took0 took1 s s') → IsTrace (set_of h.heads) u.lines u.turns
-  traces r u = subst (λ (x : Set). IsTrace x u.lines u.turns) has_set u.traces
+  traces : IsTrace (set_of h.heads) u.lines u.turns
+  traces = subst (λ (x : Set). IsTrace x u.lines u.turns) has_set u.traces
 
-  -- what the sinks took
-  hands : (r : Stop) (u : Runs r left1 left2 took0 took1 s s') (waiting : Texts) (k : HandsBoth took1 took2 s'.texts waiting)
-      → HandsBoth took0 took2 (texts_of regs u.turns) waiting
-  hands r u waiting k =
-      subst (λ (b : Bool). HandsBoth took0 took2 (texts_of b u.turns) waiting) has_regs
-      (both_more took0 took1 took2 (texts_of s.texts.regs u.turns) s'.texts waiting u.hands k)
+  -- what the output's sink took
+  hands : HandsOut taken0 taken2 (texts_of regs u.sinks.done) waiting
+  hands =
+      subst (λ (b : Bool). HandsOut taken0 taken2 (texts_of b u.sinks.done) waiting) has_regs
+      (out_more taken0 taken1 taken2 (texts_of s.texts.regs u.sinks.done) s'.texts waiting u.sinks.hands k)
 
-  writes : (r : Stop) (u : Runs r left1 left2 took0 took1 s s') (waiting : Texts) (k : HandsBoth took1 took2 s'.texts waiting) → AreEmpty waiting
-      → Writes regs h.heads u.lines all_ways
-  writes r u waiting k none =
-      let all = hands r u waiting k in
+  writes : waiting.out ≡ [] → (r ≡ stop.TraceFault → ⊥) → Writes regs h.heads u.lines all_ways
+  writes none told = record {
+    turns = u.turns;
+    is_trace = traces;
+    trace = subst (λ (x : List Turn). Takes traced0 traced1 (trace_text x)) (sym u.sinks.lines)
+        (all_told traced0 traced1 u.sinks.done u.sinks.rest u.sinks.given u.sinks.more (u.sinks.whole told) u.sinks.part u.sinks.trace);
+    told = run_left (set_of h.heads) u.lines u.turns traces;
+    out = subst (Takes taken0 taken2) (out_is regs (set_of h.heads) u.lines u.turns u.sinks.done u.sinks.rest traces u.sinks.lines (u.sinks.whole told))
+        (all_taken taken0 taken2 (texts_of regs u.sinks.done).out waiting.out hands.out none);
+  }
+
+  writes_front : WritesFront regs h.heads u.lines all_ways
+  writes_front =
+      let part = out_part_of regs (set_of h.heads) u.lines u.turns u.sinks.done u.sinks.rest traces u.sinks.lines in
       record {
         turns = u.turns;
-        is_trace = traces r u;
-        trace = all_told took0.trace took2.trace (trace_text u.turns) waiting.trace all.trace none.1;
-        answers = run_left (set_of h.heads) u.lines u.turns (traces r u);
-        out = subst (Takes took0.out took2.out) (out_is regs (set_of h.heads) u.lines u.turns (traces r u))
-            (all_taken took0.out took2.out (out_text regs u.turns) waiting.out all.out none.0);
+        is_trace = traces;
+        trace = record {
+          given = trace_text u.sinks.done ++ u.sinks.given;
+          more = u.sinks.more;
+          text_is =
+              ap trace_text u.sinks.lines ∙ trace_text-append u.sinks.done u.sinks.rest ∙ ap (λ x. trace_text u.sinks.done ++ x) u.sinks.part
+              ∙ sym (append_assoc (trace_text u.sinks.done) u.sinks.given u.sinks.more);
+          takes = u.sinks.trace;
+        };
+        out = record {
+          given = hands.out.given;
+          more = waiting.out ++ part.0;
+          text_is = part.1 ∙ ap (λ x. x ++ part.0) hands.out.joined ∙ append_assoc hands.out.given waiting.out part.0;
+          takes = hands.out.takes;
+        };
+        done = u.sinks.done;
+        rest = u.sinks.rest;
+        lines = u.sinks.lines;
+        more = u.sinks.given;
+        ahead = refl;
+        waiting = waiting.out;
+        behind = hands.out.joined;
       }
 
-  writes_front : (r : Stop) (u : Runs r left1 left2 took0 took1 s s') (waiting : Texts) (k : HandsBoth took1 took2 s'.texts waiting)
-      → WritesFront regs h.heads u.lines all_ways
-  writes_front r u waiting k =
-      let all = hands r u waiting k in
-      record {
-        turns = u.turns;
-        is_trace = traces r u;
-        trace = front_told took0.trace took2.trace (trace_text u.turns) waiting.trace all.trace;
-        out = subst (TakesFront took0.out took2.out) (out_is regs (set_of h.heads) u.lines u.turns (traces r u))
-            (front_taken took0.out took2.out (out_text regs u.turns) waiting.out all.out);
-      }
-
-  front : (r : Stop) (u : Runs r left1 left2 took0 took1 s s') (rest : List ℕ) → closed (s'.lines.reader ++ bytes_left left2) ≡ rest
-      → Front ((gone r u).got ++ bytes_left left2) h.heads u.lines rest
-  front r u rest e = front_of left0 left2 s'.lines h.heads u.lines rest (gone r u) ends h.lines u.fits (inr ok) u.short e
+  front : (rest : List ℕ) → closed (s'.lines.reader ++ bytes_left left2) ≡ rest → Front (gone.got ++ bytes_left left2) h.heads u.lines rest
+  front rest e = front_of left0 left2 s'.lines h.heads u.lines rest gone ends h.lines u.fits (inr ok) u.short e
 
   -- how many of the source's bytes the lines and one line more have
-  size : (r : Stop) (u : Runs r left1 left2 took0 took1 s s') (more : List ℕ)
-      → given ((gone r u).got ++ bytes_left left2) (front_text h.heads u.lines ++ more) ≡ s'.lines.count + given (s'.lines.reader ++ bytes_left left2) more
-  size r u more = gone_given left0 left2 new_lines s'.lines (front_text h.heads u.lines) more (length h.heads + length u.lines) (gone r u) ends refl refl
+  size : (more : List ℕ) → given (gone.got ++ bytes_left left2) (front_text h.heads u.lines ++ more) ≡ s'.lines.count + given (s'.lines.reader ++ bytes_left left2) more
+  size more = gone_given left0 left2 new_lines s'.lines (front_text h.heads u.lines) more (length h.heads + length u.lines) gone ends refl refl
 
-  number : (r : Stop) (u : Runs r left1 left2 took0 took1 s s') → s'.lines.lines ≡ length h.heads + length u.lines
-  number r u = omega (arith, (gone r u).lines)
-
-  abbrev begins : (r : Stop) (u : Runs r left1 left2 took0 took1 s s') → Begins ((gone r u).got ++ bytes_left left2)
-  begins r u = record { head = h.heads; schedule = u.lines; rest = closed (s'.lines.reader ++ bytes_left left2); front = front r u _ refl; set = λ whole. ok.set }
+  number : s'.lines.lines ≡ length h.heads + length u.lines
+  number = omega (arith, gone.lines)
 
   -- a sink failed
-  write_ends : (r : Stop) (u : Runs r left1 left2 took0 took1 s s') (waiting : Texts) (k : HandsBoth took1 took2 s'.texts waiting)
-      → OneRose writes0 writes2 marks0 marks2 → Ends status.WriteFault regs all_ways
-  write_ends r u waiting k rose = (
+  write_ends : OneRose all_ways → Ends status.WriteFault regs all_ways
+  write_ends rose = (
     rose,
-    told left0 left2 (gone r u).got (λ input. (b : Begins input) × WritesFront regs b.head b.schedule all_ways) (gone r u).reads
-        (begins r u, writes_front r u waiting k),
+    told left0 left2 gone.got (λ input. (b : Begins input) × WritesFront regs b.head b.schedule all_ways) gone.reads (
+      record { head = h.heads; schedule = u.lines; rest = closed (s'.lines.reader ++ bytes_left left2); front = front _ refl; accepted = ok },
+      writes_front,
+    ),
   )
 
   -- each way in which a run ends, once all was handed on
-  stop_ends : (r : Stop) (u : Runs r left1 left2 took0 took1 s s') (waiting : Texts) (k : HandsBoth took1 took2 s'.texts waiting) → AreEmpty waiting
-      → (r ≡ stop.ReadFault → Rose reads reads') → (r ≡ stop.WriteFault → OneRose writes0 writes2 marks0 marks2)
-      → Ends (stop_status r s'.lines.lines) regs all_ways
-  stop_ends stop.End u waiting k none rf wf =
-      told left0 left2 (gone stop.End u).got (λ input. (job : Job) × Spells input job × Writes regs job.head job.schedule all_ways) (gone stop.End u).reads (
+
+  end_ends : IsHalt stop.End (s'.lines.reader ++ bytes_left left2) s'.lines.count → Writes regs h.heads u.lines all_ways → Ends status.Ok regs all_ways
+  end_ends cause all =
+      told left0 left2 gone.got (λ input. (job : Job) × Spells input job × Writes regs job.head job.schedule all_ways) gone.reads (
         record { head = h.heads; schedule = u.lines },
         record {
-          tail = u.cause.0;
-          text = (front stop.End u (end_line ++ u.cause.0) (u.cause.1)).text;
-          short = omega (arith, size stop.End u end_line, u.cause.2);
+          tail = cause.0;
+          text = (front (end_line ++ cause.0) (cause.1)).text;
+          short = omega (arith, size end_line, cause.2);
           fits = record { head = ok; schedule = u.fits };
         },
-        writes stop.End u waiting k none,
+        all,
       )
-  stop_ends (stop.Refused rule) u waiting k none rf wf =
-      told left0 left2 (gone (stop.Refused rule) u).got (λ input. (r : RefusesLine input (s'.lines.lines + 1) rule) × Writes regs r.head r.schedule all_ways)
-      (gone (stop.Refused rule) u).reads (
-        record {
-          head = h.heads;
-          schedule = u.lines;
-          bytes = u.cause.0;
-          rest = u.cause.1;
-          front = front (stop.Refused rule) u (u.cause.0 ++ newline ∷ u.cause.1) u.cause.2;
-          plain = u.cause.3;
-          number = omega (arith, number (stop.Refused rule) u);
-          broken = subst (λ (b : Bool). Breaks b h.heads u.cause.0 rule) (sym ok.whole) (ok, u.cause.4);
-        },
-        writes (stop.Refused rule) u waiting k none,
-      )
-  stop_ends stop.Short u waiting k none rf wf =
-      told left0 left2 (gone stop.Short u).got (λ input. (s : EndsShort input s'.lines.lines) × Writes regs s.head s.schedule all_ways) (gone stop.Short u).reads (
-        record {
-          head = h.heads;
-          schedule = u.lines;
-          front = front stop.Short u [] (ap closed u.cause);
-          number = number stop.Short u;
-          set = λ whole. ok.set;
-        },
-        writes stop.Short u waiting k none,
-      )
-  stop_ends stop.TooLong u waiting k none rf wf =
-      told left0 left2 (gone stop.TooLong u).got (λ input. (p : PassesLimit input) × Writes regs p.head p.schedule all_ways) (gone stop.TooLong u).reads (
-        record {
-          head = h.heads;
-          schedule = u.lines;
-          line = u.cause.0;
-          rest = u.cause.1;
-          front = front stop.TooLong u (schedule_text_of u.cause.0 ++ newline ∷ u.cause.1) u.cause.3;
-          fits = u.cause.2;
-          accepted = ok;
-          long = omega (arith, size stop.TooLong u (schedule_text_of u.cause.0 ++ newline ∷ []), u.cause.4);
-        },
-        writes stop.TooLong u waiting k none,
-      )
-  stop_ends stop.ReadFault u waiting k none rf wf = (
-    rf refl,
-    told_both left0 left2 (gone stop.ReadFault u).got (λ input rest. (b : ReadSoFar input rest) × Writes regs b.head b.schedule all_ways)
-        (gone stop.ReadFault u).reads (
-          record {
-            head = h.heads;
-            schedule = u.lines;
-            part = s'.lines.reader;
-            text =
-                ap (λ t. t ++ bytes_left left2) (gone_cut left0 left2 new_lines s'.lines (front_text h.heads u.lines) (length h.heads + length u.lines) (gone stop.ReadFault u) (u.cut refl).0)
-                ∙ append_assoc (front_text h.heads u.lines) s'.lines.reader (bytes_left left2);
-            plain = (u.cut refl).1;
-            part_of_line = (u.cut refl).2;
-            front = front stop.ReadFault u _ refl;
-            set = λ whole. ok.set;
-          },
-          writes stop.ReadFault u waiting k none,
-        ),
-  )
-  stop_ends stop.WriteFault u waiting k none rf wf = write_ends stop.WriteFault u waiting k (wf refl)
 
-  -- how a run that stopped ends
-  pub run_ends : (r : Stop) (u : Runs r left1 left2 took0 took1 s s') (waiting : Texts) (k : HandsBoth took1 took2 s'.texts waiting)
-      (writes1 marks1 : ℕ) (ended : Status) → Finishes r s'.lines.lines ended waiting writes1 writes2 marks1 marks2
-      → writes0 ≤ writes1 → writes1 ≤ writes2 → marks0 ≤ marks1 → marks1 ≤ marks2
-      → (r ≡ stop.ReadFault → Rose reads reads') → (r ≡ stop.WriteFault → OneRose writes0 writes1 marks0 marks1) → Ends ended regs all_ways
-  run_ends r u waiting k writes1 marks1 ended (inl f) a b c d rf wf =
-      subst (λ (e : Status). Ends e regs all_ways) (sym f.0)
-      (stop_ends r u waiting k f.1 rf (λ e. one_within writes0 writes0 writes1 writes2 marks0 marks0 marks1 marks2 (omega arith) b (omega arith) d (wf e)))
-  run_ends r u waiting k writes1 marks1 ended (inr f) a b c d rf wf =
-      subst (λ (e : Status). Ends e regs all_ways) (sym f.0) (write_ends r u waiting k (rose f.1)) where
-        rose : (r ≡ stop.WriteFault) ⊎ OneRose writes1 writes2 marks1 marks2 → OneRose writes0 writes2 marks0 marks2
-        rose (inl e) = one_within writes0 writes0 writes1 writes2 marks0 marks0 marks1 marks2 (omega arith) b (omega arith) d (wf e)
-        rose (inr x) = one_within writes0 writes1 writes2 writes2 marks0 marks1 marks2 marks2 a (omega arith) c (omega arith) x
+  line_ends : (rule : ℕ) → IsHalt (stop.Refused rule) (s'.lines.reader ++ bytes_left left2) s'.lines.count → Writes regs h.heads u.lines all_ways
+      → Ends (status.BadJob (s'.lines.lines + 1) rule) regs all_ways
+  line_ends rule cause all =
+      told left0 left2 gone.got (λ input. (r : RefusesLine input (s'.lines.lines + 1) rule) × Writes regs r.head r.schedule all_ways) gone.reads (
+        record {
+          head = h.heads;
+          schedule = u.lines;
+          bytes = cause.0;
+          rest = cause.1;
+          front = front (cause.0 ++ newline ∷ cause.1) cause.2;
+          plain = cause.3;
+          number = omega (arith, number);
+          broken = subst (λ (b : Bool). Breaks b h.heads cause.0 rule) (sym ok.whole) (ok, cause.4);
+        },
+        all,
+      )
+
+  source_ends : IsHalt stop.Short (s'.lines.reader ++ bytes_left left2) s'.lines.count → Writes regs h.heads u.lines all_ways
+      → Ends (status.Short s'.lines.lines) regs all_ways
+  source_ends cause all =
+      told left0 left2 gone.got (λ input. (s : EndsShort input s'.lines.lines) × Writes regs s.head s.schedule all_ways) gone.reads (
+        record { head = h.heads; schedule = u.lines; front = front [] (ap closed cause); number = number; set = λ whole. ok.set },
+        all,
+      )
+
+  limit_ends : IsHalt stop.TooLong (s'.lines.reader ++ bytes_left left2) s'.lines.count → Writes regs h.heads u.lines all_ways → Ends status.TooLong regs all_ways
+  limit_ends cause all =
+      told left0 left2 gone.got (λ input. (p : PassesLimit input) × Writes regs p.head p.schedule all_ways) gone.reads (
+        record {
+          head = h.heads;
+          schedule = u.lines;
+          line = cause.0;
+          rest = cause.1;
+          front = front (schedule_text_of cause.0 ++ newline ∷ cause.1) cause.3;
+          fits = cause.2;
+          accepted = ok;
+          long = omega (arith, size (schedule_text_of cause.0 ++ newline ∷ []), cause.4);
+        },
+        all,
+      )
+
+  read_ends : IsCut s'.lines → Rose faults faults' → Writes regs h.heads u.lines all_ways → Ends status.ReadFault regs all_ways
+  read_ends cut rose all = (
+    rose,
+    told_both left0 left2 gone.got (λ input rest. (b : ReadSoFar input rest) × Writes regs b.head b.schedule all_ways) gone.reads (
+      record {
+        head = h.heads;
+        schedule = u.lines;
+        part = s'.lines.reader;
+        text =
+            ap (λ t. t ++ bytes_left left2) (gone_cut left0 left2 new_lines s'.lines (front_text h.heads u.lines) (length h.heads + length u.lines) gone cut.0)
+            ∙ append_assoc (front_text h.heads u.lines) s'.lines.reader (bytes_left left2);
+        plain = cut.1;
+        part_of_line = cut.2;
+        front = front _ refl;
+        set = λ whole. ok.set;
+      },
+      all,
+    ),
+  )
+
+rose_by : (a b : ℕ) → b ≡ counted a → Rose a b
+rose_by a b e = omega (arith, e)
+
+-- how a run that stopped ends
+module _ (left0 left1 left2 : Option (List ℕ)) (draft : Draft) (l1 : Lines) (h : HeadSoFar draft left0 left1 new_lines l1) (ok : IsAccepted h.heads)
+    (taken0 taken1 taken2 traced0 traced1 : Option (List ℕ)) (s s' : Session) (regs : Bool) (starts : s.lines ≡ l1) (has_regs : s.texts.regs ≡ regs)
+    (has_set : s.run.set ≡ set_of h.heads) (ends : s'.lines.ended ≡ true → IsAtEnd left2) (faults faults' out0 out1 out2 trace0 trace1 : ℕ)
+    (waiting : Texts) (k : HandsOut taken1 taken2 s'.texts waiting) (ended : Status) where
+  abbrev the_ways : Ways
+  the_ways = ways left0 left2 faults faults' taken0 taken2 out0 out2 traced0 traced1 trace0 trace1
+
+  closed_ends : (r : Stop) (u : Runs r left1 left2 (both taken0 traced0) (both taken1 traced1) s s') → Closes (stop_status r s'.lines.lines) ended waiting out1 out2
+      → out1 ≡ out0 → (r ≡ stop.TraceFault → ⊥) → (Writes regs h.heads u.lines the_ways → Ends (stop_status r s'.lines.lines) regs the_ways)
+      → Ends ended regs the_ways
+  closed_ends r u (inl c) e told all =
+      subst (λ (x : Status). Ends x regs the_ways) (sym c.0)
+      (all (writes left0 left1 left2 draft l1 h ok taken0 taken1 taken2 traced0 traced1 s s' regs starts has_regs has_set ends faults faults' out0 out2 trace0 trace1 r u waiting k c.1 told))
+  closed_ends r u (inr c) e told all =
+      subst (λ (x : Status). Ends x regs the_ways) (sym c.0)
+      (write_ends left0 left1 left2 draft l1 h ok taken0 taken1 taken2 traced0 traced1 s s' regs starts has_regs has_set ends faults faults' out0 out2 trace0 trace1 r u waiting k
+      (inl (rose_by out0 out2 (c.1 ∙ ap counted e))))
+
+  pub run_ends : (r : Stop) (u : Runs r left1 left2 (both taken0 traced0) (both taken1 traced1) s s') → Finishes r s'.lines.lines ended waiting out1 out2
+      → out1 ≡ out_faults r out0 → trace1 ≡ trace_faults r trace0 → (r ≡ stop.ReadFault → Rose faults faults') → Ends ended regs the_ways
+  run_ends stop.End u f o t rf = closed_ends stop.End u f o (λ e. cc (e))
+      (end_ends left0 left1 left2 draft l1 h ok taken0 taken1 taken2 traced0 traced1 s s' regs starts has_regs has_set ends faults faults' out0 out2 trace0 trace1 stop.End u waiting k u.cause)
+  run_ends (stop.Refused rule) u f o t rf = closed_ends (stop.Refused rule) u f o (λ e. cc (e))
+      (line_ends left0 left1 left2 draft l1 h ok taken0 taken1 taken2 traced0 traced1 s s' regs starts has_regs has_set ends faults faults' out0 out2 trace0 trace1 (stop.Refused rule) u waiting k rule u.cause)
+  run_ends stop.Short u f o t rf = closed_ends stop.Short u f o (λ e. cc (e))
+      (source_ends left0 left1 left2 draft l1 h ok taken0 taken1 taken2 traced0 traced1 s s' regs starts has_regs has_set ends faults faults' out0 out2 trace0 trace1 stop.Short u waiting k u.cause)
+  run_ends stop.TooLong u f o t rf = closed_ends stop.TooLong u f o (λ e. cc (e))
+      (limit_ends left0 left1 left2 draft l1 h ok taken0 taken1 taken2 traced0 traced1 s s' regs starts has_regs has_set ends faults faults' out0 out2 trace0 trace1 stop.TooLong u waiting k u.cause)
+  run_ends stop.ReadFault u f o t rf = closed_ends stop.ReadFault u f o (λ e. cc (e))
+      (read_ends left0 left1 left2 draft l1 h ok taken0 taken1 taken2 traced0 traced1 s s' regs starts has_regs has_set ends faults faults' out0 out2 trace0 trace1 stop.ReadFault u waiting k (u.cut refl) (rf refl))
+  run_ends stop.OutFault u f o t rf =
+      subst (λ (x : Status). Ends x regs the_ways) (sym f.0)
+      (write_ends left0 left1 left2 draft l1 h ok taken0 taken1 taken2 traced0 traced1 s s' regs starts has_regs has_set ends faults faults' out0 out2 trace0 trace1 stop.OutFault u waiting k
+      (inl (rose_by out0 out2 (f.1 ∙ o))))
+  run_ends stop.TraceFault u f o t rf =
+      subst (λ (x : Status). Ends x regs the_ways) (sym f.0)
+      (write_ends left0 left1 left2 draft l1 h ok taken0 taken1 taken2 traced0 traced1 s s' regs starts has_regs has_set ends faults faults' out0 out2 trace0 trace1 stop.TraceFault u waiting k
+      (inr (rose_by trace0 trace1 t)))
+
+-- how often the sinks failed in it
+module _ (ended : Status) (waiting : Texts) (w : Ways) (lines out1 : ℕ) where
+  closed_faults : (s : Status) → (NoFault w → Faults s w) → Closes s ended waiting out1 w.out_faults' → out1 ≡ w.out_faults → w.trace_faults' ≡ w.trace_faults → Faults ended w
+  closed_faults s quiet (inl c) o t = subst (λ (x : Status). Faults x w) (sym c.0) (quiet (c.2 ∙ o, t))
+  closed_faults s quiet (inr c) o t = subst (λ (x : Status). Faults x w) (sym c.0) (inl (c.1 ∙ ap counted o, t))
+
+  pub run_faults : (r : Stop) → Finishes r lines ended waiting out1 w.out_faults' → out1 ≡ out_faults r w.out_faults
+      → w.trace_faults' ≡ trace_faults r w.trace_faults → Faults ended w
+  run_faults stop.End f o t = closed_faults status.Ok (λ n. n) f o t
+  run_faults (stop.Refused rule) f o t = closed_faults (status.BadJob (lines + 1) rule) (λ n. n) f o t
+  run_faults stop.Short f o t = closed_faults (status.Short lines) (λ n. n) f o t
+  run_faults stop.TooLong f o t = closed_faults status.TooLong (λ n. n) f o t
+  run_faults stop.ReadFault f o t = closed_faults status.ReadFault (λ n. n) f o t
+  run_faults stop.OutFault f o t = subst (λ (x : Status). Faults x w) (sym f.0) (inl (f.1 ∙ o, t))
+  run_faults stop.TraceFault f o t = subst (λ (x : Status). Faults x w) (sym f.0) (inr (f.1 ∙ o, t))
 
 -- a list of one text
 pub one_word : (words : List (Bor (List ℕ))) (text : List ℕ) (b : Bool) (d : Bor (List ℕ)) → length words ≡ 1 → b ≡ bytes_eq (get_or words 0 d).now text

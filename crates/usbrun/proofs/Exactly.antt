@@ -1,10 +1,17 @@
 -- From the cause of a status to when it comes: a reading has one outcome.
-use Rattle.std.proofs.Common.{◌≡◌, ℕ, List, Bool, true, false, refl, ap, sym, ◌∙◌, subst, length, arith, Option, Some, None, IfSome, inl, inr, ◌⊎◌}
-use Rattle.device_text.specs.Job.{Job, Spells}
-use Rattle.device_text.specs.Outcome.{Outcome, Whole, BadLine, BadSet, Short, TooLong, IsOutcome}
-use Rattle.device_text.proofs.Outcomes.{one_outcome}
+use Rattle.std.proofs.Common.{◌≡◌, ℕ, ◌≤◌, List, [], ◌∷◌, Bool, true, false, refl, ap, sym, ◌∙◌, subst, length, map, arith, Option, Some, None, IfSome, inl, inr, ◌⊎◌}
+use Rattle.usb_edge.specs.Stream.{Takes, Rose, counted}
+use Rattle.device_line.specs.declared.line.DevLine.{DevLine}
+use Rattle.usb_text.specs.declared.head.HeadLine.{HeadLine}
+use Rattle.device_schedule.specs.Schedule.{answers}
+use Rattle.device_schedule.specs.Turns.{Turn}
+use Rattle.device_text.specs.Trace.{trace_text}
+use Rattle.usbrun.specs.Texts.{out_text}
+use Rattle.device_text.specs.Job.{Job, Spells, IsAccepted}
+use Rattle.device_text.specs.Outcome.{Outcome, Whole, BadLine, BadSet, Short, TooLong, IsOutcome, EndsInHead, Front, set_of}
+use Rattle.device_text.proofs.Outcomes.{one_outcome, in_head_is, not_in_head}
 use Rattle.usbrun.specs.Written.{Ways, Writes, WritesNothing}
-use Rattle.usbrun.specs.Top.{IsCommand, RunEnds, Ends, Cause, NoneRose, Exact, Completes, outcome_status}
+use Rattle.usbrun.specs.Top.{IsCommand, RunEnds, Ends, Cause, NoneRose, Exact, Refuses, Completes, NoFault, Faults, Claims, outcome_status}
 use Rattle.usbrun.specs.declared.status.Status.{Status}
 use Rattle.usbrun.specs.declared.status.Status.TheVariants as status
 
@@ -55,7 +62,7 @@ told_exact status.NoMemory w input regs none e o h = inr refl
 told_exact (status.Short lines) w input regs none e o h = inl (same input (Short lines) o e.0 h)
 told_exact status.TooLong w input regs none e o h = inl (same input TooLong o e.0 h)
 
-pub exact : (s : Status) (words : List (List ℕ)) (w : Ways) → Cause s words w → Exact s words w
+exact : (s : Status) (words : List (List ℕ)) (w : Ways) → Cause s words w → Exact s words w
 exact s words w c = λ regs d none. by_left regs none w.left (ran s words w regs d c) where
   by_left : (regs : Bool) → NoneRose w → (left : Option (List ℕ)) → Ends s regs (record w { left = left })
       → IfSome left (λ input. (o : Outcome) → IsOutcome input o → (s ≡ outcome_status o) ⊎ (s ≡ status.NoMemory))
@@ -87,10 +94,88 @@ told_completes (status.Short lines) w input regs none e job h =
 told_completes status.TooLong w input regs none e job h =
     let no = same input TooLong (Whole job) e.0 h in absurd (cc (no))
 
-pub completes : (s : Status) (words : List (List ℕ)) (w : Ways) → Cause s words w → Completes s words w
+completes : (s : Status) (words : List (List ℕ)) (w : Ways) → Cause s words w → Completes s words w
 completes s words w c = λ regs d none. by_left regs none w.left (ran s words w regs d c) where
   by_left : (regs : Bool) → NoneRose w → (left : Option (List ℕ)) → Ends s regs (record w { left = left })
       → IfSome left (λ input. (job : Job) → Spells input job
       → ((s ≡ status.Ok) × Writes regs job.head job.schedule (record w { left = left })) ⊎ ((s ≡ status.NoMemory) × WritesNothing w))
   by_left regs none None e = tt
   by_left regs none (Some input) e = told_completes s w input regs none e
+
+-- Of a reading that ends in the head nothing is written.
+
+no_turns : (turns : List Turn) → map (λ turn. turn.line) turns ≡ [] → turns ≡ []
+no_turns [] e = refl
+no_turns (t ∷ ts) e = absurd (cc (e))
+
+writes_none : (regs : Bool) (head : List HeadLine) (schedule : List DevLine) (w : Ways) → schedule ≡ [] → Writes regs head schedule w → WritesNothing w
+writes_none regs head schedule w none h =
+    let turns = no_turns h.turns (h.is_trace.lines ∙ none) in (
+      subst (Takes w.taken w.taken') (ap (λ (x : List Turn). out_text regs x (answers (set_of head) schedule)) turns
+          ∙ ap (λ (x : List DevLine). out_text regs [] (answers (set_of head) x)) none ∙ nothing regs) h.out,
+      subst (λ (x : List Turn). Takes w.traced w.traced' (trace_text x)) turns h.trace,
+    ) where
+      nothing : (b : Bool) → out_text b [] [] ≡ []
+      nothing true = refl
+      nothing false = refl
+
+module _ (w : Ways) (input : List ℕ) (regs : Bool) (o : Outcome) (h : EndsInHead input o) where
+  not_ended : (a : Outcome) → IsOutcome input a → a ≡ o → EndsInHead input a
+  not_ended a ha e = subst (EndsInHead input) (sym e) h
+
+  one : (a : Outcome) → IsOutcome input a → a ≡ o
+  one a ha = one_outcome input a o ha (in_head_is input o h)
+
+  none_read : (head : List HeadLine) (schedule : List DevLine) (rest : List ℕ) → Front input head schedule rest → (schedule ≡ []) ⊎ IsAccepted head → schedule ≡ []
+  none_read head schedule rest f (inl e) = e
+  none_read head schedule rest f (inr ok) = absurd (not_in_head input head schedule rest f ok o h)
+
+  told_refuses : (s : Status) → (Rose w.src_faults w.src_faults' → ⊥) → Ends s regs (over w input) → (s ≡ outcome_status o) × WritesNothing w
+  told_refuses status.Ok quiet e = absurd (not_ended (Whole e.0) e.1 (one (Whole e.0) e.1))
+  told_refuses status.Usage quiet e = absurd e
+  told_refuses (status.BadJob line rule) quiet e = (
+    ap outcome_status (one (BadLine line rule) e.0),
+    writes_none regs e.0.head e.0.schedule (over w input) (none_read e.0.head e.0.schedule _ e.0.front e.0.front.accepted) e.1,
+  )
+  told_refuses (status.BadSet rule at) quiet e = (ap outcome_status (one (BadSet (record { rule = rule; at = at })) e.0), e.1)
+  told_refuses status.ReadFault quiet e = absurd (quiet e.0)
+  told_refuses status.WriteFault quiet e = absurd (not_in_head input e.1.0.head e.1.0.schedule e.1.0.rest e.1.0.front e.1.0.accepted o h)
+  told_refuses status.NoMemory quiet e = absurd (not_in_head input e.0.head [] e.0.rest e.0.front e.0.accepted o h)
+  told_refuses (status.Short lines) quiet e = (
+    ap outcome_status (one (Short lines) e.0),
+    writes_none regs e.0.head e.0.schedule (over w input) (none_read e.0.head e.0.schedule _ e.0.front e.0.front.accepted) e.1,
+  )
+  told_refuses status.TooLong quiet e = absurd (not_ended TooLong e.0 (one TooLong e.0))
+
+refuses : (s : Status) (words : List (List ℕ)) (w : Ways) → Cause s words w → Refuses s words w
+refuses s words w c = λ regs d quiet. by_left regs quiet w.left (ran s words w regs d c) where
+  by_left : (regs : Bool) → (Rose w.src_faults w.src_faults' → ⊥) → (left : Option (List ℕ)) → Ends s regs (record w { left = left })
+      → IfSome left (λ input. (o : Outcome) → EndsInHead input o → (s ≡ outcome_status o) × WritesNothing w)
+  by_left regs quiet None e = tt
+  by_left regs quiet (Some input) e = λ o h. told_refuses w input regs o h s quiet e
+
+pub claims : (s : Status) (words : List (List ℕ)) (w : Ways) → Cause s words w → Faults s w → Claims s words w
+claims s words w c f = record { cause = c; exact = exact s words w c; refuses = refuses s words w c; complete = completes s words w c; faults = f }
+
+-- counts of faults don't fall
+
+one_more : (n m : ℕ) → m ≡ counted n → n ≤ m
+one_more n m e = omega (arith, e)
+
+same_count : (n m : ℕ) → m ≡ n → n ≤ m
+same_count n m e = omega (arith, e)
+
+no_fault : (w : Ways) → NoFault w → (w.out_faults ≤ w.out_faults') × (w.trace_faults ≤ w.trace_faults')
+no_fault w f = (same_count w.out_faults w.out_faults' f.0, same_count w.trace_faults w.trace_faults' f.1)
+
+pub counts_rise : (s : Status) (w : Ways) → Faults s w → (w.out_faults ≤ w.out_faults') × (w.trace_faults ≤ w.trace_faults')
+counts_rise status.Ok w f = no_fault w f
+counts_rise status.Usage w f = no_fault w f
+counts_rise (status.BadJob line rule) w f = no_fault w f
+counts_rise (status.BadSet rule at) w f = no_fault w f
+counts_rise status.ReadFault w f = no_fault w f
+counts_rise status.WriteFault w (inl f) = (one_more w.out_faults w.out_faults' f.0, same_count w.trace_faults w.trace_faults' f.1)
+counts_rise status.WriteFault w (inr f) = (same_count w.out_faults w.out_faults' f.0, one_more w.trace_faults w.trace_faults' f.1)
+counts_rise status.NoMemory w f = no_fault w f
+counts_rise (status.Short lines) w f = no_fault w f
+counts_rise status.TooLong w f = no_fault w f

@@ -1,8 +1,9 @@
 -- One line of a schedule, and then many.
-use Rattle.std.proofs.Common.{◌≡◌, ℕ, ◌+◌, ◌≤◌, ◌<◌, List, [], ◌∷◌, ◌++◌, true, length, take, drop, refl, ap, sym, ◌∙◌, subst, append_assoc, arith, length-append, Option, Some, None}
+use Rattle.std.proofs.Common.{◌≡◌, ℕ, ◌+◌, ◌≤◌, ◌<◌, List, [], ◌∷◌, ◌++◌, Bool, true, false, length, take, drop, refl, ap, sym, ◌∙◌, subst, append_assoc, arith, length-append, Option, Some, None}
 use Rattle.std.specs.List.{AllByRecursion}
 use Rattle.std.proofs.lemmas.List.{append-nil}
-use Rattle.usb_edge.specs.Stream.{IsAtEnd}
+use Rattle.usb_edge.specs.Stream.{Takes, IsAtEnd}
+use Rattle.usb_edge.proofs.Streams.{takes-nothing, takes-more}
 use Rattle.line_rules.specs.declared.rules.Mode.TheVariants as mode
 use Rattle.line_rules.specs.declared.rules.Place.TheVariants as place
 use Rattle.line_rules.specs.Rules.{most_line}
@@ -17,7 +18,8 @@ use Rattle.usb_descriptor.specs.Set.{Set}
 use Rattle.device_machine.specs.Core.{Core, start}
 use Rattle.device_schedule.specs.Schedule.{core_answer, core_after}
 use Rattle.device_text.specs.Job.{schedule_line, schedule_text, end_line, closed, given, most_bytes}
-use Rattle.device_schedule.specs.Turns.{Turn, IsTurn, after_turn}
+use Rattle.device_schedule.specs.Turns.{Turn, IsTurn, IsTrace, after_turn}
+use Rattle.device_text.specs.Trace.{trace_text}
 use Rattle.device_schedule.proofs.Answers.{core_state-more}
 use Rattle.device_text.proofs.Traces.{after_turns-more, trace-more}
 use Rattle.device_run.specs.Run.{Run, Steps}
@@ -25,15 +27,14 @@ use Rattle.device_text.proofs.Closed.{closed_schedule}
 use Rattle.job_reader.specs.Stream.{bytes_left}
 use Rattle.job_reader.specs.Lines.{Finds, IsLineAt, Gone, IsCut, size_of}
 use Rattle.job_reader.specs.declared.lines.Lines.{Lines}
-use Rattle.usbrun.specs.declared.texts.Texts.{Texts}
 use Rattle.usbrun.specs.declared.session.Session.{Session}
 use Rattle.usbrun.specs.declared.session.Stop.{Stop}
 use Rattle.usbrun.specs.declared.session.Stop.TheVariants as stop
-use Rattle.usbrun.specs.Texts.{Took, HandsBoth, added, texts_of, AreEmpty}
-use Rattle.usbrun.specs.Session.{Looks, Answers, Keeps, Halted, TakesLine, IsHalt, Turns, Halts, Goes, Progress, Runs}
+use Rattle.usbrun.specs.Texts.{Took, both, Hears, HandsOut, trace_part, added_where, texts_of}
+use Rattle.usbrun.specs.Session.{Looks, Answers, Keeps, Stands, Halted, TakesLine, IsHalt, Turns, Halts, Goes, Progress, Runs}
 use Rattle.job_reader.proofs.Gone.{line_at, line_taken, line_size, gone_nothing, gone_found, gone_more}
 use Rattle.job_reader.proofs.Heads.{too_long}
-use Rattle.usbrun.proofs.Handed.{both_more, both_added, both_nothing, texts-more, texts-nothing}
+use Rattle.usbrun.proofs.Handed.{nothing_handed, out_more, out_joined, texts-more, texts-nothing, trace-told, trace_is-more}
 
 -- the causes of a run's end at the line in front
 halted_cause : (r : Stop) (s : Session) (n : ℕ) (left : Option (List ℕ)) → IsLineAt n s.lines → (s.lines.ended ≡ true → IsAtEnd left) → Halted r n s
@@ -57,63 +58,65 @@ halted_cause stop.TooLong s n left h ends c =
     ap (λ t. given (s.lines.reader ++ bytes_left left) (t ++ newline ∷ [])) (sym c.2) ∙ at.size in
     (c.0, rest, c.1, at.text ∙ ap (λ t. t ++ newline ∷ rest) c.2, omega (arith, size, c.3))
 halted_cause stop.ReadFault s n left h ends c = absurd c
-halted_cause stop.WriteFault s n left h ends c = tt
+halted_cause stop.OutFault s n left h ends c = tt
+halted_cause stop.TraceFault s n left h ends c = tt
 
 -- a session that was looked at and then kept
-halts : (r : Stop) (left left' : Option (List ℕ)) (took mid took' : Took) (old s new : Session) → Looks left left' took mid old s → Keeps mid took' s new
+halts : (r : Stop) (left left' : Option (List ℕ)) (took mid took' : Took) (old s new : Session) → Looks left left' took.out mid.out old s → mid.trace ≡ took.trace
+    → Keeps mid.out took'.out s new → took'.trace ≡ mid.trace
     → IsHalt r (s.lines.reader ++ bytes_left left') s.lines.count → (r ≡ stop.ReadFault → IsCut s.lines) → Halts r left left' took took' old new
-halts r left left' took mid took' old s new l k cause cut = record {
+halts r left left' took mid took' old s new l e k f cause cut = record {
   finds = subst (λ (x : Lines). Finds left left' old.lines x) (sym k.lines) l.finds;
-  hands = both_more took mid took' old.texts s.texts new.texts l.hands k.hands;
+  hands = out_more took.out mid.out took'.out old.texts s.texts new.texts l.hands k.hands;
+  trace = f ∙ e;
   run = k.run ∙ l.run;
   cause = subst (λ (x : Lines). IsHalt r (x.reader ++ bytes_left left') x.count) (sym k.lines) cause;
   cut = λ e. subst IsCut (sym k.lines) (cut e);
 }
 
-keeps_all : (took : Took) (s : Session) → Keeps took took s s
-keeps_all took s = record { hands = both_nothing took s.texts; lines = refl; run = refl }
+keeps_all : (taken : Option (List ℕ)) (s : Session) → Keeps taken taken s s
+keeps_all taken s = record { hands = nothing_handed taken s.texts; lines = refl; run = refl }
 
-looked : (r : Stop) (left left' : Option (List ℕ)) (took took' : Took) (old s : Session) → Looks left left' took took' old s
-    → IsHalt r (s.lines.reader ++ bytes_left left') s.lines.count → (r ≡ stop.ReadFault → IsCut s.lines) → Halts r left left' took took' old s
-looked r left left' took took' old s l cause cut = halts r left left' took took' took' old s s l (keeps_all took' s) cause cut
+looked : (r : Stop) (left left' taken taken' traced : Option (List ℕ)) (old s : Session) → Looks left left' taken taken' old s
+    → IsHalt r (s.lines.reader ++ bytes_left left') s.lines.count → (r ≡ stop.ReadFault → IsCut s.lines)
+    → Halts r left left' (both taken traced) (both taken' traced) old s
+looked r left left' taken taken' traced old s l cause cut =
+    halts r left left' (both taken traced) (both taken' traced) (both taken' traced) old s s l refl (keeps_all taken' s) refl cause cut
 
-pub halts_short : (left left' : Option (List ℕ)) (took took' : Took) (old s : Session) → Looks left left' took took' old s → s.lines.reader ≡ [] → s.lines.ended ≡ true
-    → (s.lines.ended ≡ true → IsAtEnd left') → Halts stop.Short left left' took took' old s
-halts_short left left' took took' old s l empty ended ends =
-    looked stop.Short left left' took took' old s l (ap (λ t. t ++ bytes_left left') empty ∙ none left' (ends ended)) (λ e. absurd (cc (e))) where
+pub halts_short : (left left' taken taken' traced : Option (List ℕ)) (old s : Session) → Looks left left' taken taken' old s → s.lines.reader ≡ [] → s.lines.ended ≡ true
+    → (s.lines.ended ≡ true → IsAtEnd left') → Halts stop.Short left left' (both taken traced) (both taken' traced) old s
+halts_short left left' taken taken' traced old s l empty ended ends =
+    looked stop.Short left left' taken taken' traced old s l (ap (λ t. t ++ bytes_left left') empty ∙ none left' (ends ended)) (λ e. absurd (cc (e))) where
       none : (left : Option (List ℕ)) → IsAtEnd left → bytes_left left ≡ []
       none None h = refl
       none (Some l) h = h
 
-pub halts_long : (left left' : Option (List ℕ)) (took took' : Took) (old s : Session) → Looks left left' took took' old s
-    → is_plain s.lines.reader ≡ true → most_line < length s.lines.reader → Halts (stop.Refused 1) left left' took took' old s
-halts_long left left' took took' old s l plain long =
-    looked (stop.Refused 1) left left' took took' old s l (too_long mode.Device place.Schedule s.lines left' plain long) (λ e. absurd (cc (e)))
+pub halts_long : (left left' taken taken' traced : Option (List ℕ)) (old s : Session) → Looks left left' taken taken' old s
+    → is_plain s.lines.reader ≡ true → most_line < length s.lines.reader → Halts (stop.Refused 1) left left' (both taken traced) (both taken' traced) old s
+halts_long left left' taken taken' traced old s l plain long =
+    looked (stop.Refused 1) left left' taken taken' traced old s l (too_long mode.Device place.Schedule s.lines left' plain long) (λ e. absurd (cc (e)))
 
-pub halts_read_fault : (left left' : Option (List ℕ)) (took took' : Took) (old s : Session) → Looks left left' took took' old s → IsCut s.lines
-    → Halts stop.ReadFault left left' took took' old s
-halts_read_fault left left' took took' old s l cut = looked stop.ReadFault left left' took took' old s l tt (λ e. cut)
+pub halts_read_fault : (left left' taken taken' traced : Option (List ℕ)) (old s : Session) → Looks left left' taken taken' old s → IsCut s.lines
+    → Halts stop.ReadFault left left' (both taken traced) (both taken' traced) old s
+halts_read_fault left left' taken taken' traced old s l cut = looked stop.ReadFault left left' taken taken' traced old s l tt (λ e. cut)
 
-pub halts_write_fault : (left left' : Option (List ℕ)) (took took' : Took) (old s : Session) → Looks left left' took took' old s
-    → Halts stop.WriteFault left left' took took' old s
-halts_write_fault left left' took took' old s l = looked stop.WriteFault left left' took took' old s l tt (λ e. absurd (cc (e)))
-
--- the texts of a session before a line, with those of the line
-line_added : (line : DevLine) (old s new : Session) → s.run ≡ old.run
-    → added s.texts new.run.log (core_answer s.run.core line) ≡ added s.texts new.run.log (core_answer old.run.core line)
-line_added line old s new e = ap (λ (r : Run). added s.texts new.run.log (core_answer r.core line)) e
+pub halts_out_fault : (left left' taken taken' traced : Option (List ℕ)) (old s : Session) → Looks left left' taken taken' old s
+    → Halts stop.OutFault left left' (both taken traced) (both taken' traced) old s
+halts_out_fault left left' taken taken' traced old s l = looked stop.OutFault left left' taken taken' traced old s l tt (λ e. absurd (cc (e)))
 
 -- a line was looked for and answered
-turns : (n : ℕ) (left left' : Option (List ℕ)) (took mid took' : Took) (old s new : Session) → Looks left left' took mid old s
-    → IsLineAt n s.lines → Answers n mid took' s new → Turns left left' took took' old new
-turns n left left' took mid took' old s new l h a = record {
+turns : (told : Bool) (n : ℕ) (left left' : Option (List ℕ)) (took mid took' : Took) (old s new : Session) → Looks left left' took.out mid.out old s
+    → mid.trace ≡ took.trace → IsLineAt n s.lines → Answers told n mid took' s new → Turns told left left' took took' old new
+turns told n left left' took mid took' old s new l e h a = record {
   line = a.line;
   fits = a.fits;
   gone = subst (λ (t : List ℕ). Gone left left' old.lines new.lines (t ++ newline ∷ []) 1) a.text
       (line_taken n left left' old.lines s.lines new.lines l.finds h a.rest a.ended a.count a.lines);
   run = subst (λ (r : Run). Steps r new.run a.line (core_answer r.core a.line)) l.run a.run;
-  hands = both_added took mid took' old.texts s.texts new.texts new.run.log (core_answer old.run.core a.line) l.hands
-      (subst (λ (x : Texts). HandsBoth mid took' x new.texts) (line_added a.line old s new l.run) a.hands);
+  trace = subst (λ (t : Option (List ℕ)). Hears told t took'.trace (trace_part new.run.log (core_answer old.run.core a.line))) e
+      (subst (λ (r : Run). Hears told mid.trace took'.trace (trace_part new.run.log (core_answer r.core a.line))) l.run a.trace);
+  hands = out_joined told took.out mid.out took'.out old.texts s.texts new.texts new.run.log (core_answer old.run.core a.line) l.hands
+      (subst (λ (r : Run). HandsOut mid.out took'.out (added_where told s.texts new.run.log (core_answer r.core a.line)) new.texts) l.run a.hands);
   short = a.short;
   more = omega (arith, a.count, l.finds.count, line_size n s.lines h);
 }
@@ -126,7 +129,7 @@ fits-more : (lines : List DevLine) (line : DevLine) → AllByRecursion IsDeviceL
 fits-more [] line h k = (k, tt)
 fits-more (l ∷ ls) line h k = (h.0, fits-more ls line h.1 k)
 
-pub progress_start : (left : Option (List ℕ)) (took : Took) (s : Session) → s.run.core ≡ start → s.run.table ≡ opened FS4 → AreEmpty s.texts
+pub progress_start : (left : Option (List ℕ)) (took : Took) (s : Session) → s.run.core ≡ start → s.run.table ≡ opened FS4 → s.texts.out ≡ []
     → s.lines.count ≤ most_bytes → s.lines.lines ≤ s.lines.count → Progress left left took took s s
 progress_start left took s core table empty short few = record {
   lines = [];
@@ -134,7 +137,8 @@ progress_start left took s core table empty short few = record {
   gone = gone_nothing left s.lines;
   turns = [];
   traces = record { lines = refl; answers = refl; run = tt };
-  hands = texts-nothing took s.texts empty;
+  trace = takes-nothing took.trace;
+  hands = texts-nothing took.out s.texts empty;
   set = refl;
   core = core;
   table = table;
@@ -142,41 +146,60 @@ progress_start left took s core table empty short few = record {
   few = few;
 }
 
-pub progress_more : (left0 left left' : Option (List ℕ)) (took0 took took' : Took) (s0 s s' : Session) → Progress left0 left took0 took s0 s
-    → Turns left left' took took' s s' → Progress left0 left' took0 took' s0 s'
-progress_more left0 left left' took0 took took' s0 s s' p t = record {
-  lines = p.lines ++ line ∷ [];
-  fits = fits-more p.lines line p.fits t.fits;
-  gone = subst (λ (n : ℕ). Gone left0 left' s0.lines s'.lines (schedule_text (p.lines ++ line ∷ [])) n) (sym (length-append p.lines (line ∷ [])))
-      (subst (λ (x : List ℕ). Gone left0 left' s0.lines s'.lines x (length p.lines + 1)) (sym (schedule-more p.lines line))
-      (gone_more left0 left left' s0.lines s.lines s'.lines (schedule_text p.lines) (schedule_line line) (length p.lines) 1 (closed_schedule p.lines) p.gone t.gone));
-  turns = p.turns ++ turn ∷ [];
-  traces = trace-more set p.lines p.turns turn p.traces (ap (λ (c : Core). core_answer c line) p.core)
-      (subst (λ (x : Table). IsTurn x line s'.run.log answer) p.table t.run.turn);
-  hands = texts-more took0 took took' s0.texts.regs p.turns turn s.texts s'.texts p.hands t.hands;
-  set = t.run.set ∙ p.set;
-  core =
-      t.run.core ∙ ap (λ (x : Set). core_after x s.run.core line) p.set ∙ ap (λ (c : Core). core_after set c line) p.core
-      ∙ sym (core_state-more set start p.lines line);
-  table = t.run.table ∙ ap (λ (x : Table). after_turn x line s'.run.log) p.table ∙ sym (after_turns-more (opened FS4) p.turns turn);
-  short = t.short;
-  few = omega (arith, p.few, t.gone.lines, t.more);
-} where
-  set : Set
-  set = s0.run.set
-
-  line : DevLine
+-- the lines so far and then one more
+module _ (told : Bool) (left0 left left' : Option (List ℕ)) (took0 took took' : Took) (s0 s s' : Session) (p : Progress left0 left took0 took s0 s)
+    (t : Turns told left left' took took' s s') where
+  abbrev line : DevLine
   line = t.line
 
-  answer : Answer
+  abbrev answer : Answer
   answer = core_answer s.run.core line
 
-  turn : Turn
+  abbrev turn : Turn
   turn = record { line = line; accesses = s'.run.log; answer = answer }
 
-pub progress_end : (r : Stop) (left0 left left' : Option (List ℕ)) (took0 took took' : Took) (s0 s s' : Session) → Progress left0 left took0 took s0 s
+  fits_on : AllByRecursion IsDeviceLine (p.lines ++ line ∷ [])
+  fits_on = fits-more p.lines line p.fits t.fits
+
+  gone_on : Gone left0 left' s0.lines s'.lines (schedule_text (p.lines ++ line ∷ [])) (length (p.lines ++ line ∷ []))
+  gone_on =
+      subst (λ (n : ℕ). Gone left0 left' s0.lines s'.lines (schedule_text (p.lines ++ line ∷ [])) n) (sym (length-append p.lines (line ∷ [])))
+      (subst (λ (x : List ℕ). Gone left0 left' s0.lines s'.lines x (length p.lines + 1)) (sym (schedule-more p.lines line))
+      (gone_more left0 left left' s0.lines s.lines s'.lines (schedule_text p.lines) (schedule_line line) (length p.lines) 1 (closed_schedule p.lines) p.gone t.gone))
+
+  traces_on : IsTrace s0.run.set (p.lines ++ line ∷ []) (p.turns ++ turn ∷ [])
+  traces_on =
+      trace-more s0.run.set p.lines p.turns turn p.traces (ap (λ (c : Core). core_answer c line) p.core)
+      (subst (λ (x : Table). IsTurn x line s'.run.log answer) p.table t.run.turn)
+
+  few_on : s'.lines.lines ≤ s'.lines.count
+  few_on = omega (arith, p.few, t.gone.lines, t.more)
+
+pub progress_more : (left0 left left' : Option (List ℕ)) (took0 took took' : Took) (s0 s s' : Session) → Progress left0 left took0 took s0 s
+    → Turns true left left' took took' s s' → Progress left0 left' took0 took' s0 s'
+progress_more left0 left left' took0 took took' s0 s s' p t = record {
+  lines = p.lines ++ t.line ∷ [];
+  fits = fits_on true left0 left left' took0 took took' s0 s s' p t;
+  gone = gone_on true left0 left left' took0 took took' s0 s s' p t;
+  turns = p.turns ++ turn true left0 left left' took0 took took' s0 s s' p t ∷ [];
+  traces = traces_on true left0 left left' took0 took took' s0 s s' p t;
+  trace = trace-told took0.trace took.trace took'.trace p.turns (turn true left0 left left' took0 took took' s0 s s' p t) p.trace t.trace;
+  hands = texts-more took0.out took.out took'.out s0.texts.regs p.turns (turn true left0 left left' took0 took took' s0 s s' p t) s.texts s'.texts p.hands t.hands;
+  set = t.run.set ∙ p.set;
+  core =
+      t.run.core ∙ ap (λ (x : Set). core_after x s.run.core t.line) p.set ∙ ap (λ (c : Core). core_after s0.run.set c t.line) p.core
+      ∙ sym (core_state-more s0.run.set start p.lines t.line);
+  table =
+      t.run.table ∙ ap (λ (x : Table). after_turn x t.line s'.run.log) p.table
+      ∙ sym (after_turns-more (opened FS4) p.turns (turn true left0 left left' took0 took took' s0 s s' p t));
+  short = t.short;
+  few = few_on true left0 left left' took0 took took' s0 s s' p t;
+}
+
+-- the run ended before the next line
+progress_halts : (r : Stop) (left0 left left' : Option (List ℕ)) (took0 took took' : Took) (s0 s s' : Session) → Progress left0 left took0 took s0 s
     → Halts r left left' took took' s s' → Runs r left0 left' took0 took' s0 s'
-progress_end r left0 left left' took0 took took' s0 s s' p h = record {
+progress_halts r left0 left left' took0 took took' s0 s s' p h = record {
   lines = p.lines;
   fits = p.fits;
   gone = subst (λ (n : ℕ). Gone left0 left' s0.lines s'.lines (schedule_text p.lines) n) (add_none (length p.lines))
@@ -185,7 +208,18 @@ progress_end r left0 left left' took0 took took' s0 s s' p h = record {
       (gone_found left left' s.lines s'.lines h.finds)));
   turns = p.turns;
   traces = p.traces;
-  hands = both_more took0 took took' (texts_of s0.texts.regs p.turns) s.texts s'.texts p.hands h.hands;
+  sinks = record {
+    done = p.turns;
+    rest = [];
+    lines = sym (append-nil p.turns);
+    given = [];
+    more = [];
+    part = refl;
+    trace = subst (Takes took0.trace took'.trace) (sym (append-nil (trace_text p.turns)))
+        (subst (λ (t : Option (List ℕ)). Takes took0.trace t (trace_text p.turns)) (sym h.trace) p.trace);
+    hands = out_more took0.out took.out took'.out (texts_of s0.texts.regs p.turns) s.texts s'.texts p.hands h.hands;
+    whole = λ _. refl;
+  };
   short = omega (arith, p.short, h.finds.count);
   few = omega (arith, p.few, h.finds.count, h.finds.lines);
   cause = h.cause;
@@ -194,16 +228,57 @@ progress_end r left0 left left' took0 took took' s0 s s' p h = record {
   add_none : (n : ℕ) → n + 0 ≡ n
   add_none n = omega arith
 
+-- or the trace failed in the text of the last one
+progress_fails : (left0 left left' : Option (List ℕ)) (took0 took took' : Took) (s0 s s' : Session) → Progress left0 left took0 took s0 s
+    → Turns false left left' took took' s s' → Runs stop.TraceFault left0 left' took0 took' s0 s'
+progress_fails left0 left left' took0 took took' s0 s s' p t = record {
+  lines = p.lines ++ t.line ∷ [];
+  fits = fits_on false left0 left left' took0 took took' s0 s s' p t;
+  gone = gone_on false left0 left left' took0 took took' s0 s s' p t;
+  turns = p.turns ++ last ∷ [];
+  traces = traces_on false left0 left left' took0 took took' s0 s s' p t;
+  sinks = record {
+    done = p.turns;
+    rest = last ∷ [];
+    lines = refl;
+    given = t.trace.given;
+    more = t.trace.more;
+    part = sym (trace_is-more [] last) ∙ t.trace.text_is;
+    trace = takes-more took0.trace took.trace took'.trace (trace_text p.turns) t.trace.given p.trace t.trace.takes;
+    hands = out_more took0.out took.out took'.out (texts_of s0.texts.regs p.turns) s.texts s'.texts p.hands t.hands;
+    whole = λ never. absurd (never refl);
+  };
+  short = t.short;
+  few = few_on false left0 left left' took0 took took' s0 s s' p t;
+  cause = tt;
+  cut = λ e. absurd (cc (e));
+} where
+  last : Turn
+  last = turn false left0 left left' took0 took took' s0 s s' p t
+
+pub progress_end : (r : Stop) (left0 left left' : Option (List ℕ)) (took0 took took' : Took) (s0 s s' : Session) → Progress left0 left took0 took s0 s
+    → Goes (Some r) left left' took took' s s' → Runs r left0 left' took0 took' s0 s'
+progress_end stop.TraceFault left0 left left' took0 took took' s0 s s' p h = progress_fails left0 left left' took0 took took' s0 s s' p h
+progress_end stop.End left0 left left' took0 took took' s0 s s' p h = progress_halts stop.End left0 left left' took0 took took' s0 s s' p h
+progress_end (stop.Refused rule) left0 left left' took0 took took' s0 s s' p h = progress_halts (stop.Refused rule) left0 left left' took0 took took' s0 s s' p h
+progress_end stop.Short left0 left left' took0 took took' s0 s s' p h = progress_halts stop.Short left0 left left' took0 took took' s0 s s' p h
+progress_end stop.TooLong left0 left left' took0 took took' s0 s s' p h = progress_halts stop.TooLong left0 left left' took0 took took' s0 s s' p h
+progress_end stop.ReadFault left0 left left' took0 took took' s0 s s' p h = progress_halts stop.ReadFault left0 left left' took0 took took' s0 s s' p h
+progress_end stop.OutFault left0 left left' took0 took took' s0 s s' p h = progress_halts stop.OutFault left0 left left' took0 took took' s0 s s' p h
+
 -- one line, whatever came of it
-pub goes_line : (r : Option Stop) (n : ℕ) (left left' : Option (List ℕ)) (took mid took' : Took) (old s new : Session) → Looks left left' took mid old s
-    → IsLineAt n s.lines → (s.lines.ended ≡ true → IsAtEnd left') → TakesLine r n mid took' s new → Goes r left left' took took' old new
-goes_line None n left left' took mid took' old s new l b ends h = turns n left left' took mid took' old s new l b h
-goes_line (Some r) n left left' took mid took' old s new l b ends h =
-    halts r left left' took mid took' old s new l h.0 (halted_cause r s n left' b ends h.1) (no_fault r h.1) where
-      no_fault : (r : Stop) → Halted r n s → r ≡ stop.ReadFault → IsCut s.lines
-      no_fault stop.ReadFault k e = absurd k
-      no_fault stop.End k e = absurd (cc (e))
-      no_fault (stop.Refused rule) k e = absurd (cc (e))
-      no_fault stop.Short k e = absurd (cc (e))
-      no_fault stop.TooLong k e = absurd (cc (e))
-      no_fault stop.WriteFault k e = absurd (cc (e))
+module _ (n : ℕ) (left left' : Option (List ℕ)) (took mid took' : Took) (old s new : Session) (l : Looks left left' took.out mid.out old s)
+    (e : mid.trace ≡ took.trace) (b : IsLineAt n s.lines) (ends : s.lines.ended ≡ true → IsAtEnd left') where
+  stands : (r : Stop) → Stands r n mid took' s new → (r ≡ stop.ReadFault → ⊥) → Halts r left left' took took' old new
+  stands r h never =
+      halts r left left' took mid took' old s new l e h.keeps h.trace (halted_cause r s n left' b ends h.halted) (λ f. absurd (never f))
+
+  pub goes_line : (r : Option Stop) → TakesLine r n mid took' s new → Goes r left left' took took' old new
+  goes_line None h = turns true n left left' took mid took' old s new l e b h
+  goes_line (Some stop.TraceFault) h = turns false n left left' took mid took' old s new l e b h
+  goes_line (Some stop.End) h = stands stop.End h (λ f. cc (f))
+  goes_line (Some (stop.Refused rule)) h = stands (stop.Refused rule) h (λ f. cc (f))
+  goes_line (Some stop.Short) h = stands stop.Short h (λ f. cc (f))
+  goes_line (Some stop.TooLong) h = stands stop.TooLong h (λ f. cc (f))
+  goes_line (Some stop.ReadFault) h = absurd h.halted
+  goes_line (Some stop.OutFault) h = stands stop.OutFault h (λ f. cc (f))

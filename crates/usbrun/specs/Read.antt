@@ -31,13 +31,13 @@ pub record ReadSoFar (input left : List ℕ) : Type 0 where
   pub front : Front input head schedule (closed (part ++ left))
   pub set : is_whole head ≡ true → set_fault head ≡ None
 
--- lines that the bytes begin with, and what follows
+-- a whole head with an accepted set and lines of a schedule, which the bytes begin with, and what follows
 pub record Begins (input : List ℕ) : Type 0 where
   pub head : List HeadLine
   pub schedule : List DevLine
   pub rest : List ℕ
   pub front : Front input head schedule rest
-  pub set : is_whole head ≡ true → set_fault head ≡ None
+  pub accepted : IsAccepted head
 
 -- the bytes begin with a whole head with an accepted set
 pub record HasHead (input : List ℕ) : Type 0 where

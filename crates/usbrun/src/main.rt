@@ -6,6 +6,7 @@ ghost use Rattle.std.specs.Prelude.{◌≡◌};
 ghost use Rattle.std.specs.Process.{exit_status};
 ghost use Rattle.usbrun.specs.Status.{status_number};
 
+mod program;
 mod run;
 mod session;
 mod status;
@@ -13,13 +14,15 @@ mod status;
 mod tests;
 mod texts;
 mod top;
+mod turn;
 mod writer;
 
+use program::{no_memory, run_words};
 use status::Status;
 use std::io::ErrorKind;
 use std::process::ExitCode;
 use std::{env, io};
-use usb_edge::{FileDisks, NoSink, StderrSink, StdinSource, StdoutSink};
+use usb_edge::{StderrSink, StdinSource, StdoutSink};
 
 /// The words after the program's name.
 fn words(rt: &HostRuntime) -> io::Result<Vec<String>> {
@@ -30,28 +33,6 @@ fn words(rt: &HostRuntime) -> io::Result<Vec<String>> {
     Ok(words)
 }
 
-/// Runs the program on these words, and on the process's streams.
-fn run_words(rt: &HostRuntime, words: &[String]) -> io::Result<Status> {
-    let mut texts: Vec<&str> = Vec::new(rt.alloc());
-    for word in words {
-        texts.push(word.as_str())?;
-    }
-    let mut src = StdinSource::new(rt.stdin());
-    let mut out = StdoutSink::new(rt.stdout());
-    let mut err = StderrSink::new(rt.stderr());
-    let mut trace = NoSink::new();
-    let mut disks = FileDisks::new();
-    Ok(top::usb_top(
-        rt.alloc(),
-        texts.as_slice(),
-        &mut src,
-        &mut out,
-        &mut err,
-        &mut trace,
-        &mut disks,
-    ))
-}
-
 /// With which the process ends.
 fn exit_code(status: Status) -> ExitCode
     ensures { exit_status result ≡ status_number status }
@@ -60,13 +41,16 @@ fn exit_code(status: Status) -> ExitCode
 }
 
 fn main(rt: HostRuntime) -> ExitCode {
+    let mut src = StdinSource::new(rt.stdin());
+    let mut out = StdoutSink::new(rt.stdout());
+    let mut err = StderrSink::new(rt.stderr());
     let status = match words(&rt) {
-        Ok(words) => run_words(&rt, words.as_slice()).unwrap_or(Status::NoMemory),
+        Ok(words) => run_words(rt.alloc(), words.as_slice(), &mut src, &mut out, &mut err),
         // a word that is no text is none of a command's
         Err(error) if error.kind() == ErrorKind::InvalidData => {
-            run_words(&rt, &[]).unwrap_or(Status::NoMemory)
+            run_words(rt.alloc(), &[], &mut src, &mut out, &mut err)
         }
-        Err(_) => Status::NoMemory,
+        Err(_) => no_memory(&mut err),
     };
     exit_code(status)
 }

@@ -1,20 +1,27 @@
-ghost use Rattle.std.specs.Prelude.{◌≡◌, ◌+◌, ◌≤◌, ◌<◌, Some, false, IfNone, IsTrue, true, ◌⊎◌};
+ghost use Rattle.std.specs.Prelude.{◌≡◌, ◌+◌, ◌≤◌, ◌<◌, Some, IfSome, IsTrue, true, ◌⊎◌, [], length, is_some};
 ghost use Rattle.dwc2_regs.specs.declared.access.TheConstants.{FS4};
 ghost use Rattle.device_table.specs.State.{opened};
 ghost use Rattle.usb_edge.specs.Stream.{Rose, IsAtEnd};
+ghost use Rattle.usb_edge.specs.Outcome.{faults_at_tell};
 ghost use Rattle.device_machine.specs.Core.{start};
 ghost use Rattle.usb_text.specs.Scheduled.{device_line};
+ghost use Rattle.device_line.specs.declared.line.Answer.TheVariants.{Bus, Reply as TheReply};
 ghost use Rattle.device_schedule.specs.Schedule.{core_answer};
 ghost use Rattle.device_text.specs.Job.{most_bytes};
 ghost use Rattle.device_run.specs.Run.{Steps};
-ghost use Rattle.usbrun.specs.Texts.{Adds, HasRooms, AreEmpty, both, OneRose};
+ghost use Rattle.usbrun.specs.Stream.{HasRoom};
+ghost use Rattle.usbrun.specs.Texts.{trace_part, added_where, both, Hears};
 ghost use Rattle.job_reader.specs.Lines.{IsLineAt};
-ghost use Rattle.usbrun.specs.Session.{Looks, FindsNext, Keeps, TakesLine, Goes, Runs};
+ghost use Rattle.usbrun.specs.Session.{Looks, FindsNext, Keeps, TakesLine, Goes, Runs, out_faults, trace_faults, out_faults_at, trace_faults_at};
 
 use crate::session::{Session, Stop};
+use crate::texts::Texts;
+use crate::turn::{BusTurn, ReplyTurn};
+use dwc2_regs::Access;
 use job_reader::{Next, line_break};
 use usb_edge::{Sink, Source};
 use usb_packet::BusAnswer;
+use usb_pipe::Reply;
 use usb_text::{DevCall, ScheduleLine, ServedLine, read_schedule};
 
 /// The most bytes that a job has, up to and with its last line.
@@ -33,14 +40,13 @@ pub fn run_schedule<S: Source, K: Sink, T: Sink>(
     requires ended { (session.old.lines.ended ≡ true) → IsAtEnd (S.left src.old) }
     requires start { session.old.run.core ≡ start }
     requires table { session.old.run.table ≡ opened FS4 }
-    requires empty { AreEmpty session.old.texts }
+    requires empty { session.old.texts.out ≡ [] }
     ensures runs { Runs result (S.left src.old) (S.left src.new) (both (K.taken out.old) (T.taken trace.old)) (both (K.taken out.new) (T.taken trace.new)) session.old session.new }
     ensures ended { (session.new.lines.ended ≡ true) → IsAtEnd (S.left src.new) }
     ensures source { S.faults src.old ≤ S.faults src.new }
-    ensures sink { K.faults out.old ≤ K.faults out.new }
-    ensures traced { T.faults trace.old ≤ T.faults trace.new }
     ensures read_fault { result ≡ Stop.ReadFault → Rose (S.faults src.old) (S.faults src.new) }
-    ensures write_fault { result ≡ Stop.WriteFault → OneRose (K.faults out.old) (K.faults out.new) (T.faults trace.old) (T.faults trace.new) }
+    ensures out_faults { K.faults out.new ≡ out_faults result (K.faults out.old) }
+    ensures trace_faults { T.faults trace.new ≡ trace_faults result (T.faults trace.old) }
 {
     'lines: loop {
         if let Some(stop) = go_on(session, src, out, trace) {
@@ -62,49 +68,42 @@ fn go_on<S: Source, K: Sink, T: Sink>(
     ensures goes { Goes result (S.left src.old) (S.left src.new) (both (K.taken out.old) (T.taken trace.old)) (both (K.taken out.new) (T.taken trace.new)) session.old session.new }
     ensures ended { (session.new.lines.ended ≡ true) → IsAtEnd (S.left src.new) }
     ensures source { S.faults src.old ≤ S.faults src.new }
-    ensures sink { K.faults out.old ≤ K.faults out.new }
-    ensures traced { T.faults trace.old ≤ T.faults trace.new }
     ensures read_fault { result ≡ Some Stop.ReadFault → Rose (S.faults src.old) (S.faults src.new) }
-    ensures write_fault { result ≡ Some Stop.WriteFault → OneRose (K.faults out.old) (K.faults out.new) (T.faults trace.old) (T.faults trace.new) }
+    ensures out_faults { K.faults out.new ≡ out_faults_at result (K.faults out.old) }
+    ensures trace_faults { T.faults trace.new ≡ trace_faults_at result (T.faults trace.old) }
 {
-    match look(session, src, out, trace) {
+    match look(session, src, out) {
         Some(Next::Line(n)) => take_line(session, n, out, trace),
         Some(Next::Nothing) => Some(Stop::Short),
         Some(Next::TooLong) => Some(Stop::Refused(1)),
         Some(Next::ReadFault) => Some(Stop::ReadFault),
-        None => Some(Stop::WriteFault),
+        None => Some(Stop::OutFault),
     }
 }
 
-#[tactic(auto, using(job_reader::proofs::Gone::finds_nothing, job_reader::proofs::Gone::line_found))]
+#[tactic(auto, using(job_reader::proofs::Gone::finds_nothing, job_reader::proofs::Gone::line_found, crate::proofs::Handed::nothing_handed))]
 /// Looks for the next line. What waits is handed on before anything is read; where that fails there is none.
-fn look<S: Source, K: Sink, T: Sink>(
-    session: &mut Session,
-    src: &mut S,
-    out: &mut K,
-    trace: &mut T,
-) -> Option<Next>
+fn look<S: Source, K: Sink>(session: &mut Session, src: &mut S, out: &mut K) -> Option<Next>
     requires { (session.old.lines.ended ≡ true) → IsAtEnd (S.left src.old) }
-    ensures looks { Looks (S.left src.old) (S.left src.new) (both (K.taken out.old) (T.taken trace.old)) (both (K.taken out.new) (T.taken trace.new)) session.old session.new }
+    ensures looks { Looks (S.left src.old) (S.left src.new) (K.taken out.old) (K.taken out.new) session.old session.new }
     ensures next { FindsNext result session.new (S.faults src.old) (S.faults src.new) }
-    ensures handed { (src.new ≡ src.old) ⊎ AreEmpty session.new.texts }
+    ensures handed { (src.new ≡ src.old) ⊎ (session.new.texts.out ≡ []) }
     ensures ended { (session.new.lines.ended ≡ true) → IsAtEnd (S.left src.new) }
-    ensures failed { IfNone result (OneRose (K.faults out.old) (K.faults out.new) (T.faults trace.old) (T.faults trace.new)) }
+    ensures exact { K.faults out.new ≡ faults_at_tell (is_some result) (K.faults out.old) }
     ensures source { S.faults src.old ≤ S.faults src.new }
-    ensures sink { K.faults out.old ≤ K.faults out.new }
-    ensures traced { T.faults trace.old ≤ T.faults trace.new }
 {
     if let Some(n) = line_break(session.lines.reader.ahead()) {
         return Some(Next::Line(n));
     }
-    if !session.texts.flush(out, trace) {
+    if !session.texts.flush(out) {
         return None;
     }
     Some(session.lines.find(src))
 }
 
-#[tactic(auto, using(crate::proofs::Handed::then_added))]
-/// Answers the line of `n` bytes that stands in front, and takes it with its newline.
+#[tactic(auto, using(crate::proofs::Handed::nothing_handed, crate::proofs::Handed::then_added))]
+/// Answers the line of `n` bytes that stands in front, and takes it with its newline. The trace is told before the output
+/// has anything of the line.
 fn take_line<K: Sink, T: Sink>(
     session: &mut Session,
     n: usize,
@@ -116,9 +115,8 @@ fn take_line<K: Sink, T: Sink>(
     requires line { IsLineAt n session.old.lines }
     ensures takes { TakesLine result n (both (K.taken out.old) (T.taken trace.old)) (both (K.taken out.new) (T.taken trace.new)) session.old session.new }
     ensures read_fault { result ≡ Some Stop.ReadFault → ⊥ }
-    ensures failed { result ≡ Some Stop.WriteFault → OneRose (K.faults out.old) (K.faults out.new) (T.faults trace.old) (T.faults trace.new) }
-    ensures sink { K.faults out.old ≤ K.faults out.new }
-    ensures traced { T.faults trace.old ≤ T.faults trace.new }
+    ensures out_faults { K.faults out.new ≡ out_faults_at result (K.faults out.old) }
+    ensures trace_faults { T.faults trace.new ≡ trace_faults_at result (T.faults trace.old) }
 {
     let line = match read_schedule(session.lines.line(n)) {
         Ok(line) => line,
@@ -130,55 +128,101 @@ fn take_line<K: Sink, T: Sink>(
     match line {
         ScheduleLine::End => Some(Stop::End),
         ScheduleLine::Served(line) => {
-            if !make_room(session, out, trace) {
-                return Some(Stop::WriteFault);
+            if !make_room(session, out) {
+                return Some(Stop::OutFault);
             }
-            answer(session, &line, trace);
+            let told = answer(session, &line, trace);
             session.lines.take(n);
-            None
+            if told { None } else { Some(Stop::TraceFault) }
         }
     }
 }
 
+#[tactic(auto, using(crate::proofs::Handed::nothing_handed))]
 /// Makes room for what one line adds, by handing on what waits where there is none: whether there is room.
-fn make_room<K: Sink, T: Sink>(session: &mut Session, out: &mut K, trace: &mut T) -> bool
-    ensures keeps { Keeps (both (K.taken out.old) (T.taken trace.old)) (both (K.taken out.new) (T.taken trace.new)) session.old session.new }
-    ensures room { IsTrue result → HasRooms session.new.texts }
-    ensures failed { result ≡ false → OneRose (K.faults out.old) (K.faults out.new) (T.faults trace.old) (T.faults trace.new) }
-    ensures sink { K.faults out.old ≤ K.faults out.new }
-    ensures traced { T.faults trace.old ≤ T.faults trace.new }
+fn make_room<K: Sink>(session: &mut Session, out: &mut K) -> bool
+    ensures keeps { Keeps (K.taken out.old) (K.taken out.new) session.old session.new }
+    ensures room { IsTrue result → HasRoom session.new.texts.out }
+    ensures exact { K.faults out.new ≡ faults_at_tell result (K.faults out.old) }
 {
     if session.texts.has_room() {
         return true;
     }
-    session.texts.flush(out, trace)
+    session.texts.flush(out)
 }
 
-/// Lets the device answer a line, and puts its accesses and the answer behind what waits.
-fn answer<T: Sink>(session: &mut Session, line: &ServedLine, trace: &T)
-    requires { HasRooms session.old.texts }
-    ensures texts { Adds (T.taken trace.now) session.old.texts session.new.texts session.new.run.log (core_answer session.old.run.core (device_line line.now)) }
+/// Lets the device answer a line, tells the trace its accesses and the answer, and puts what the output shows of them
+/// behind what waits: whether the trace took them.
+fn answer<T: Sink>(session: &mut Session, line: &ServedLine, trace: &mut T) -> bool
+    requires { HasRoom session.old.texts.out }
+    ensures told { Hears result (T.taken trace.old) (T.taken trace.new) (trace_part session.new.run.log (core_answer session.old.run.core (device_line line.now))) }
+    ensures texts { session.new.texts ≡ added_where result session.old.texts session.new.run.log (core_answer session.old.run.core (device_line line.now)) }
     ensures run { Steps session.old.run session.new.run (device_line line.now) (core_answer session.old.run.core (device_line line.now)) }
     ensures lines { session.new.lines ≡ session.old.lines }
+    ensures exact { T.faults trace.new ≡ faults_at_tell result (T.faults trace.old) }
 {
     match line {
         ServedLine::Bus(event) => {
             let answer = session.run.bus(event);
-            session.texts.push_bus(session.run.trace(), &answer, trace);
+            tell_bus(session.run.trace(), &answer, &mut session.texts, trace)
         }
         ServedLine::Irq => {
             session.run.irq();
-            let accesses = session.run.trace();
-            session.texts.push_bus(accesses, &BusAnswer::Done, trace);
+            tell_bus(
+                session.run.trace(),
+                &BusAnswer::Done,
+                &mut session.texts,
+                trace,
+            )
         }
         ServedLine::Task => {
             session.run.task();
-            let accesses = session.run.trace();
-            session.texts.push_bus(accesses, &BusAnswer::Done, trace);
+            tell_bus(
+                session.run.trace(),
+                &BusAnswer::Done,
+                &mut session.texts,
+                trace,
+            )
         }
         ServedLine::State => {
             let reply = session.run.reply(&DevCall::State);
-            session.texts.push_reply(session.run.trace(), &reply, trace);
+            tell_reply(session.run.trace(), &reply, &mut session.texts, trace)
         }
     }
+}
+
+/// Tells the trace the accesses of a line and what the device answers on the bus, and then the output: whether the trace
+/// took them.
+fn tell_bus<T: Sink>(
+    accesses: &[Access],
+    answer: &BusAnswer,
+    texts: &mut Texts,
+    trace: &mut T,
+) -> bool
+    requires room { HasRoom texts.old.out }
+    requires few { length accesses.now ≤ 400 }
+    ensures told { Hears result (T.taken trace.old) (T.taken trace.new) (trace_part accesses.now (Bus answer.now)) }
+    ensures texts { texts.new ≡ added_where result texts.old accesses.now (Bus answer.now) }
+    ensures exact { T.faults trace.new ≡ faults_at_tell result (T.faults trace.old) }
+{
+    if !trace.tell(&BusTurn { accesses, answer }) {
+        return false;
+    }
+    texts.push_bus(accesses, answer);
+    true
+}
+
+/// The same with a reply.
+fn tell_reply<T: Sink>(accesses: &[Access], reply: &Reply, texts: &mut Texts, trace: &mut T) -> bool
+    requires room { HasRoom texts.old.out }
+    requires few { length accesses.now ≤ 400 }
+    ensures told { Hears result (T.taken trace.old) (T.taken trace.new) (trace_part accesses.now (TheReply reply.now)) }
+    ensures texts { texts.new ≡ added_where result texts.old accesses.now (TheReply reply.now) }
+    ensures exact { T.faults trace.new ≡ faults_at_tell result (T.faults trace.old) }
+{
+    if !trace.tell(&ReplyTurn { accesses, reply }) {
+        return false;
+    }
+    texts.push_reply(accesses, reply);
+    true
 }

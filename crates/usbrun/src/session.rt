@@ -26,6 +26,8 @@ pub enum Stop {
     TooLong,
     /// The source failed.
     ReadFault,
-    /// A sink failed.
-    WriteFault,
+    /// The output's sink failed.
+    OutFault,
+    /// The trace's sink failed, before it had all of the last line's text.
+    TraceFault,
 }

@@ -3,17 +3,16 @@ ghost use Rattle.std.specs.Option.{option_map};
 ghost use Rattle.usb_descriptor.specs.Strings.{Ascend, string_descriptor};
 ghost use Rattle.usb_descriptor.specs.Verdict.{verdict};
 ghost use Rattle.device_text.specs.Job.{limits};
-ghost use Rattle.usbrun.specs.Texts.{both, HandsBoth};
-ghost use Rattle.usbrun.specs.Finish.{Finishes, head_status, stop_status};
+ghost use Rattle.usbrun.specs.Texts.{HandsOut};
+ghost use Rattle.usbrun.specs.Finish.{Closes, Finishes, HasFailed, head_status};
 ghost use Rattle.usbrun.specs.Status.{Tells};
 ghost use Rattle.usbrun.specs.Written.{ways};
-ghost use Rattle.usbrun.specs.Top.{IsCommand, IsCommandOf, Ends, Cause, Exact, Completes};
+ghost use Rattle.usbrun.specs.Top.{IsCommand, IsCommandOf, Ends, Cause, Faults, Claims};
 
 use crate::run::run_schedule;
 use crate::session::{Session, Stop};
 use crate::status::Status;
 use crate::texts::Texts;
-use crate::writer::hand_on;
 use device_run::DeviceRun;
 use job_reader::{Draft, Lines, NoHead, read_heads};
 use std::alloc::Global;
@@ -36,23 +35,15 @@ pub fn usb_top<S: Source, K: Sink, E: Sink, T: Sink, D: Disks>(
     trace: &mut T,
     disks: &mut D,
 ) -> Status
-    ensures cause { Cause result (map (λ w. w.now) words.now) (ways
-        (S.left src.old) (S.left src.new) (S.faults src.old) (S.faults src.new)
-        (K.taken out.old) (K.taken out.new) (K.faults out.old) (K.faults out.new)
-        (T.taken trace.old) (T.taken trace.new) (T.faults trace.old) (T.faults trace.new)) }
-    ensures exact { Exact result (map (λ w. w.now) words.now) (ways
-        (S.left src.old) (S.left src.new) (S.faults src.old) (S.faults src.new)
-        (K.taken out.old) (K.taken out.new) (K.faults out.old) (K.faults out.new)
-        (T.taken trace.old) (T.taken trace.new) (T.faults trace.old) (T.faults trace.new)) }
-    ensures complete { Completes result (map (λ w. w.now) words.now) (ways
+    ensures claims { Claims result (map (λ w. w.now) words.now) (ways
         (S.left src.old) (S.left src.new) (S.faults src.old) (S.faults src.new)
         (K.taken out.old) (K.taken out.new) (K.faults out.old) (K.faults out.new)
         (T.taken trace.old) (T.taken trace.new) (T.faults trace.old) (T.faults trace.new)) }
     ensures errors { Tells result (E.taken err.old) (E.taken err.new) (E.faults err.old) (E.faults err.new) }
     ensures source { S.faults src.old ≤ S.faults src.new }
     ensures sink { K.faults out.old ≤ K.faults out.new }
-    ensures errors_count { E.faults err.old ≤ E.faults err.new }
     ensures traced { T.faults trace.old ≤ T.faults trace.new }
+    ensures errors_count { E.faults err.old ≤ E.faults err.new }
     ensures disks { disks.new ≡ disks.old }
 {
     let _ = disks;
@@ -73,9 +64,11 @@ fn run_words<S: Source, K: Sink, T: Sink>(
         (S.left src.old) (S.left src.new) (S.faults src.old) (S.faults src.new)
         (K.taken out.old) (K.taken out.new) (K.faults out.old) (K.faults out.new)
         (T.taken trace.old) (T.taken trace.new) (T.faults trace.old) (T.faults trace.new)) }
+    ensures faults { Faults result (ways
+        (S.left src.old) (S.left src.new) (S.faults src.old) (S.faults src.new)
+        (K.taken out.old) (K.taken out.new) (K.faults out.old) (K.faults out.new)
+        (T.taken trace.old) (T.taken trace.new) (T.faults trace.old) (T.faults trace.new)) }
     ensures source { S.faults src.old ≤ S.faults src.new }
-    ensures sink { K.faults out.old ≤ K.faults out.new }
-    ensures traced { T.faults trace.old ≤ T.faults trace.new }
 {
     match command(words) {
         Some(regs) => run_device(alloc, regs, src, out, trace),
@@ -85,12 +78,12 @@ fn run_words<S: Source, K: Sink, T: Sink>(
 
 #[tactic(auto, using(crate::proofs::Handed::line_told))]
 /// Tells a status by its line.
-fn tell<E: Sink>(status: Status, err: &mut E)
+pub fn tell<E: Sink>(status: Status, err: &mut E)
     ensures tells { Tells status (E.taken err.old) (E.taken err.new) (E.faults err.old) (E.faults err.new) }
     ensures count { E.faults err.old ≤ E.faults err.new }
 {
     let line = status.line();
-    let _ = hand_on(line.as_slice(), err);
+    let _ = err.write_all(line.as_slice());
 }
 
 /// Whether the output shows register lines, where the words are a command.
@@ -137,9 +130,11 @@ fn run_device<S: Source, K: Sink, T: Sink>(
         (S.left src.old) (S.left src.new) (S.faults src.old) (S.faults src.new)
         (K.taken out.old) (K.taken out.new) (K.faults out.old) (K.faults out.new)
         (T.taken trace.old) (T.taken trace.new) (T.faults trace.old) (T.faults trace.new)) }
+    ensures faults { Faults result (ways
+        (S.left src.old) (S.left src.new) (S.faults src.old) (S.faults src.new)
+        (K.taken out.old) (K.taken out.new) (K.faults out.old) (K.faults out.new)
+        (T.taken trace.old) (T.taken trace.new) (T.faults trace.old) (T.faults trace.new)) }
     ensures source { S.faults src.old ≤ S.faults src.new }
-    ensures sink { K.faults out.old ≤ K.faults out.new }
-    ensures traced { T.faults trace.old ≤ T.faults trace.new }
 {
     let mut lines = Lines::new();
     let draft = match read_heads(&mut lines, src) {
@@ -165,7 +160,7 @@ fn run_device<S: Source, K: Sink, T: Sink>(
         run,
     };
     let stop = run_schedule(&mut session, src, out, trace);
-    finish(stop, &mut session, out, trace)
+    finish(stop, &mut session, out)
 }
 
 /// The set of descriptors of a head, where the controller takes it.
@@ -195,21 +190,36 @@ fn set_of(draft: &Draft) -> Result<DescSet, SetFault>
     read_set(&parts, limits)
 }
 
-/// Hands on what waits, and tells how the run ends.
-fn finish<K: Sink, T: Sink>(stop: Stop, session: &mut Session, out: &mut K, trace: &mut T) -> Status
+#[tactic(auto, using(crate::proofs::Handed::nothing_handed))]
+/// Hands on what waits, and tells how the run ends. Where a sink failed nothing is written any more.
+fn finish<K: Sink>(stop: Stop, session: &mut Session, out: &mut K) -> Status
     requires { session.old.lines.lines + 1 < 2 ^ 32 }
-    ensures hands { HandsBoth (both (K.taken out.old) (T.taken trace.old)) (both (K.taken out.new) (T.taken trace.new)) session.old.texts session.new.texts }
-    ensures finishes { Finishes stop session.old.lines.lines result session.new.texts (K.faults out.old) (K.faults out.new) (T.faults trace.old) (T.faults trace.new) }
-    ensures sink { K.faults out.old ≤ K.faults out.new }
-    ensures traced { T.faults trace.old ≤ T.faults trace.new }
+    ensures hands { HandsOut (K.taken out.old) (K.taken out.new) session.old.texts session.new.texts }
+    ensures finishes { Finishes stop session.old.lines.lines result session.new.texts (K.faults out.old) (K.faults out.new) }
+    ensures failed { HasFailed stop → out.new ≡ out.old }
 {
-    if stop == Stop::WriteFault {
-        return Status::WriteFault;
+    let lines = session.lines.lines;
+    match stop {
+        Stop::OutFault => Status::WriteFault,
+        Stop::TraceFault => Status::WriteFault,
+        Stop::End => close(Status::Ok, session, out),
+        Stop::Refused(rule) => close(bad_line(lines, rule), session, out),
+        Stop::Short => close(Status::Short { lines }, session, out),
+        Stop::TooLong => close(Status::TooLong, session, out),
+        Stop::ReadFault => close(Status::ReadFault, session, out),
     }
-    if !session.texts.flush(out, trace) {
-        return Status::WriteFault;
+}
+
+/// Hands on what waits: this status, or that of a sink that failed.
+fn close<K: Sink>(status: Status, session: &mut Session, out: &mut K) -> Status
+    ensures hands { HandsOut (K.taken out.old) (K.taken out.new) session.old.texts session.new.texts }
+    ensures closes { Closes status result session.new.texts (K.faults out.old) (K.faults out.new) }
+{
+    if session.texts.flush(out) {
+        status
+    } else {
+        Status::WriteFault
     }
-    status_of(stop, session.lines.lines)
 }
 
 /// The status of a head that isn't whole after so many lines.
@@ -221,21 +231,6 @@ fn no_head(fault: NoHead, lines: u32) -> Status
         NoHead::Refused(rule) => bad_line(lines, rule),
         NoHead::Short => Status::Short { lines },
         NoHead::ReadFault => Status::ReadFault,
-    }
-}
-
-/// The status of a run that stopped after so many lines.
-fn status_of(stop: Stop, lines: u32) -> Status
-    requires { lines + 1 < 2 ^ 32 }
-    ensures { result ≡ stop_status stop lines }
-{
-    match stop {
-        Stop::End => Status::Ok,
-        Stop::Refused(rule) => bad_line(lines, rule),
-        Stop::Short => Status::Short { lines },
-        Stop::TooLong => Status::TooLong,
-        Stop::ReadFault => Status::ReadFault,
-        Stop::WriteFault => Status::WriteFault,
     }
 }
 

@@ -1,6 +1,6 @@
-ghost use Rattle.std.specs.Prelude.{◌≡◌, ℕ, ◌+◌, ◌*◌, ◌<◌, ◌≤◌, ◌↔◌, List, [], ◌++◌, false, length, take, drop, IsTrue};
+ghost use Rattle.std.specs.Prelude.{◌≡◌, ℕ, ◌+◌, ◌*◌, ◌≤◌, ◌↔◌, List, [], ◌++◌, length, drop, IsTrue};
 ghost use Rattle.arrayvec.specs.ArrayVec.{array_vec_len};
-ghost use Rattle.usb_edge.specs.Stream.{Takes, Rose};
+ghost use Rattle.usb_edge.specs.Outcome.{faults_at_tell};
 ghost use Rattle.device_line.specs.declared.line.Answer.TheVariants.{Bus, Reply as TheReply};
 ghost use Rattle.device_text.specs.Answers.{answer_line};
 ghost use Rattle.usbrun.specs.Stream.{Hands, HasRoom};
@@ -9,7 +9,7 @@ ghost use Rattle.usbrun.specs.Texts.{access_lines};
 use arrayvec::ArrayVec;
 use dwc2_regs::Access;
 use std::marker::Model;
-use usb_edge::{Sink, Wrote};
+use usb_edge::Sink;
 use usb_packet::BusAnswer;
 use usb_pipe::Reply;
 use usb_text::{MOST_ACCESS, MOST_ANSWER, Side, push_access_line, push_bus_line, push_reply_line};
@@ -85,10 +85,9 @@ impl Writer {
     pub fn flush<K: Sink>(&mut self, out: &mut K) -> bool
         ensures hands { Hands (K.taken out.old) (K.taken out.new) self.old self.new }
         ensures done { IsTrue result → self.new ≡ [] }
-        ensures failed { result ≡ false → Rose (K.faults out.old) (K.faults out.new) }
-        ensures count { K.faults out.old ≤ K.faults out.new }
+        ensures exact { K.faults out.new ≡ faults_at_tell result (K.faults out.old) }
     {
-        let given = hand_on(self.waiting.as_slice(), out);
+        let given = out.write_all(self.waiting.as_slice());
         if given == self.waiting.len() {
             self.waiting.clear();
             true
@@ -100,7 +99,7 @@ impl Writer {
 }
 
 /// Appends the lines of accesses.
-fn push_lines(out: &mut ArrayVec<u8, 32768>, accesses: &[Access])
+pub fn push_lines(out: &mut ArrayVec<u8, 32768>, accesses: &[Access])
     requires { array_vec_len out.old + 17 * length accesses.now ≤ 32768 }
     ensures items { out.new.items ≡ out.old.items ++ access_lines accesses.now }
     ensures length { array_vec_len out.new ≤ array_vec_len out.old + 17 * length accesses.now }
@@ -118,22 +117,4 @@ fn rest_of(bytes: &ArrayVec<u8, 32768>, n: usize) -> ArrayVec<u8, 32768>
     let mut rest = ArrayVec::new();
     let _ = rest.try_extend_from_slice(&bytes.as_slice()[n..]);
     rest
-}
-
-#[tactic(auto, using(crate::proofs::Handed::none_taken))]
-/// Hands bytes to a sink until it took all or failed: how many it took.
-pub fn hand_on<K: Sink>(bytes: &[u8], out: &mut K) -> usize
-    ensures within { result ≤ length bytes.now }
-    ensures takes { Takes (K.taken out.old) (K.taken out.new) (take result bytes.now) }
-    ensures failed { result < length bytes.now → Rose (K.faults out.old) (K.faults out.new) }
-    ensures count { K.faults out.old ≤ K.faults out.new }
-{
-    let mut given = 0;
-    while given < bytes.len() {
-        match out.write(&bytes[given..]) {
-            Wrote::Bytes(n) => given += n,
-            Wrote::Failed => return given,
-        }
-    }
-    given
 }

@@ -11,8 +11,8 @@ invariant-lines g l = record {
       (both (g.K.Sink.taken l.out) (g.T.Sink.taken l.trace)) l.fn.session l.session;
   ended : l.session.lines.ended ≡ true → IsAtEnd (g.S.Source.left l.src);
   source : g.S.Source.faults l.fn.src ≤ g.S.Source.faults l.src;
-  sink : g.K.Sink.faults l.fn.out ≤ g.K.Sink.faults l.out;
-  traced : g.T.Sink.faults l.fn.trace ≤ g.T.Sink.faults l.trace;
+  out_faults : g.K.Sink.faults l.out ≡ g.K.Sink.faults l.fn.out;
+  trace_faults : g.T.Sink.faults l.trace ≡ g.T.Sink.faults l.fn.trace;
 }
 
 abbrev pub decreases-lines : goal.decreases-lines

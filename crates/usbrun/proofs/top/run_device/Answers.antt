@@ -1,7 +1,7 @@
 use Rattle.std.proofs.Common.{refl, ap, ◌∙◌, arith}
 use Rattle.usb_edge.proofs.Streams.{rose_within}
 use Rattle.usbrun.specs.declared.texts.Texts.{Texts}
-use Rattle.usbrun.proofs.Endings.{head_ends, set_ends, memory_ends, accepted, set_shows, run_ends}
+use Rattle.usbrun.proofs.Endings.{head_ends, head_faults, set_ends, memory_ends, accepted, set_shows, run_ends, run_faults}
 use Rattle.usbrun.proofs.top.run_device.Goals as goal
 
 pub returns-in-Err-clause-ends : goal.returns-in-Err-clause-ends
@@ -25,14 +25,21 @@ returns-in-Err-open-clause-ends g c =
     (g.S.Source.faults c.read_heads.new.src) (g.K.Sink.faults c.args.out.now) (g.T.Sink.faults c.args.trace.now) (g.K.Sink.taken c.args.out.now)
     (g.T.Sink.taken c.args.trace.now) heads.1 c.in-Ok-set_of.ensures.accepted
 
+pub returns-in-Err-clause-faults : goal.returns-in-Err-clause-faults
+returns-in-Err-clause-faults g c = rw c.no_head.ensures (head_faults c.in-Err.fault c.read_heads.new.lines.lines _ (refl, refl))
+
 pub returns-clause-ends : goal.returns-clause-ends
 returns-clause-ends g c =
     let heads = rw c.new-lines.ensures at c.in-Ok.ensures.heads in
     let ok = accepted c.in-Ok.draft _ _ c.read_heads.new.lines heads.0 heads.1 c.in-Ok-set_of.ensures.accepted in
     let shows = set_shows c.in-Ok.draft _ _ c.read_heads.new.lines heads.0 c.in-Ok-set_of.set c.in-Ok-set_of.ensures.shows in
-    run_ends _ _ _ c.in-Ok.draft c.read_heads.new.lines heads.0 ok _ _ _ _ c.run_schedule-stop.new.session c.args.regs refl
-    (ap (λ (t : Texts). t.regs) c.new.ensures) (c.in-Ok-open.ensures.set ∙ shows) c.run_schedule-stop.ensures.ended _ _ _ _ _ _
-    c.run_schedule-stop.result c.run_schedule-stop.ensures.runs _ c.finish.ensures.hands _ _ c.finish.result c.finish.ensures.finishes
-    c.run_schedule-stop.ensures.sink c.finish.ensures.sink c.run_schedule-stop.ensures.traced c.finish.ensures.traced
+    run_ends _ _ _ c.in-Ok.draft c.read_heads.new.lines heads.0 ok _ _ _ _ _ _ c.run_schedule-stop.new.session c.args.regs refl
+    (ap (λ (t : Texts). t.regs) c.new.ensures) (c.in-Ok-open.ensures.set ∙ shows) c.run_schedule-stop.ensures.ended _ _ _ _ _ _ _ _ c.finish.ensures.hands
+    c.finish.result c.run_schedule-stop.result c.run_schedule-stop.ensures.runs c.finish.ensures.finishes
+    c.run_schedule-stop.ensures.out_faults c.run_schedule-stop.ensures.trace_faults
     (λ e. rose_within _ _ _ _ c.read_heads.ensures.count (c.run_schedule-stop.ensures.read_fault e) (omega arith))
-    c.run_schedule-stop.ensures.write_fault
+
+pub returns-clause-faults : goal.returns-clause-faults
+returns-clause-faults g c =
+    run_faults c.finish.result _ _ _ _ c.run_schedule-stop.result c.finish.ensures.finishes c.run_schedule-stop.ensures.out_faults
+    c.run_schedule-stop.ensures.trace_faults

@@ -1,7 +1,7 @@
-use Rattle.std.proofs.Common.{arith}
+use Rattle.std.proofs.Common.{arith, ◌∙◌}
 use Rattle.std.proofs.lemmas.List.{take_rest, length-drop}
-use Rattle.usbrun.proofs.Handed.{more_taken}
-use Rattle.usbrun.proofs.writer.hand_on.Goals as goal
+use Rattle.usb_edge.proofs.Streams.{more_taken}
+use Rattle.usb_edge.proofs.stream.Sink.write_all.Goals as goal
 
 pub loop-given-preserved : goal.loop-given-preserved
 loop-given-preserved g c =
@@ -11,5 +11,5 @@ loop-given-preserved g c =
     record {
       within = omega (arith, some.1, length-drop c.loop-given.given bytes);
       takes = more_taken _ _ _ bytes c.loop-given.given c.in-Bytes.n c.loop-given.invariant.takes some.2;
-      count = omega arith;
+      same = c.in-Bytes.ensures.exact ∙ c.loop-given.invariant.same;
     }
