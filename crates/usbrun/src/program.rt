@@ -1,16 +1,28 @@
+ghost use Rattle.std.specs.Prelude.{◌≡◌, ◌⊎◌, None, map, string_bytes};
+ghost use Rattle.usbrun.specs.Written.{ways};
+ghost use Rattle.usbrun.specs.Top.{Claims};
+
 use crate::status::Status;
 use crate::top::{tell, usb_top};
-use std::alloc::Global;
-use usb_edge::{FileDisks, NoSink, StderrSink, StdinSource, StdoutSink};
+use std::alloc::{AllocError, Global};
+use usb_edge::{FileDisks, NoSink, Sink, Source, StderrSink, StdinSource, StdoutSink};
 
-/// Runs the program on these words and on the process's streams. Its trace is one that nobody reads.
+/// Runs the program on these words and on the process's streams: its job comes from standard input, its output goes to
+/// standard output, and what it ends with is told on standard error. Nobody reads its trace.
 pub fn run_words(
     alloc: Global,
     words: &[String],
     src: &mut StdinSource,
     out: &mut StdoutSink,
     err: &mut StderrSink,
-) -> Status {
+) -> Status
+    ensures claims { (result ≡ Status.NoMemory) ⊎ Claims result (map string_bytes words.now) (ways
+        (⟦<StdinSource as Source>⟧.left src.old) (⟦<StdinSource as Source>⟧.left src.new)
+        (⟦<StdinSource as Source>⟧.faults src.old) (⟦<StdinSource as Source>⟧.faults src.new)
+        (⟦<StdoutSink as Sink>⟧.taken out.old) (⟦<StdoutSink as Sink>⟧.taken out.new)
+        (⟦<StdoutSink as Sink>⟧.faults out.old) (⟦<StdoutSink as Sink>⟧.faults out.new)
+        None None 0 0) }
+{
     let mut texts: Vec<&str> = Vec::new(alloc);
     for word in words {
         if texts.push(word.as_str()).is_err() {
@@ -31,7 +43,9 @@ pub fn run_words(
 }
 
 /// Ends for want of memory, before anything was read.
-pub fn no_memory(err: &mut StderrSink) -> Status {
+pub fn no_memory(err: &mut StderrSink) -> Status
+    ensures { result ≡ Status.NoMemory }
+{
     tell(Status::NoMemory, err);
     Status::NoMemory
 }
