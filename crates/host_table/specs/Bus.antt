@@ -1,11 +1,11 @@
 -- Which channel takes the bus, what the host sends, and what attaching, detaching and each answer change.
-use Rattle.std.specs.Prelude.{ℕ, zero, suc, ◌+◌, ◌==◌, ◌&&◌, not, nat_lt, nat_le, Bool, true, false, if◌then◌else◌, List, [], ◌∷◌, ◌++◌, length, map, Option, Some, None}
+use Rattle.std.specs.Prelude.{ℕ, suc, ◌+◌, ◌==◌, ◌&&◌, not, nat_lt, nat_le, Bool, true, false, if◌then◌else◌, List, [], ◌∷◌, ◌++◌, length, map, Option, Some, None}
 use Rattle.usb_packet.specs.declared.bus.Toggle.{Toggle}
 use Rattle.usb_packet.specs.declared.bus.BusAnswer.{BusAnswer}
 use Rattle.usb_packet.specs.declared.bus.BusAnswer.TheVariants as answers
 use Rattle.dwc2_fifo.specs.Words.{word_count}
 use Rattle.dwc2_fifo.specs.Rx.{room_of}
-use Rattle.dwc2_fifo.specs.Tx.{Tx, first_with}
+use Rattle.dwc2_fifo.specs.Tx.{first_with}
 use Rattle.device_table.specs.Words.{same_toggle}
 use Rattle.device_table.specs.Bus.{out_entries}
 use Rattle.host_table.specs.declared.sent.HostSent.{HostSent}

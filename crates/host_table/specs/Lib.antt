@@ -4,4 +4,5 @@ pub mod Read
 pub mod Write
 pub mod Bus
 pub mod Bank
+pub mod Laws
 pub mod Examples

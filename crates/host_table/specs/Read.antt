@@ -1,12 +1,12 @@
 -- What a read of each register gives, and what it changes.
-use Rattle.std.specs.Prelude.{ℕ, zero, suc, ◌-◌, ◌==◌, ◌&&◌, ◌||◌, Bool, true, false, if◌then◌else◌, List, [], ◌∷◌, map, Option, Some, None, slice_index, slice_index_or}
+use Rattle.std.specs.Prelude.{ℕ, zero, suc, ◌-◌, ◌==◌, ◌&&◌, ◌||◌, Bool, true, if◌then◌else◌, List, [], ◌∷◌, Option, Some, None, slice_index, slice_index_or}
 use Rattle.dwc2_regs.specs.declared.TheConstants.{GINTSTS_RXFLVL, GINTSTS_IEPINT, GINTSTS_OEPINT, GINTSTS_HPRTINT, GINTSTS_HCINT, GINTSTS_DISCINT, HAINT_CHANNELS, HCINT_XFRC, HCINT_CHH, HCINT_STALL, HCINT_NAK, HCINT_ACK, HCINT_TXERR, HCINT_DTERR, DAINT_IN, DAINT_OUT, DIEPINT_EPDISD, DOEPINT_EPDISD}
 use Rattle.dwc2_regs.specs.Field.{with_field}
 use Rattle.dwc2_regs.specs.Register.{Register, register_at, grstctl, gintsts, gintmsk, grxstsr, grxstsp, grxfsiz, dieptxf0, hptxfsiz, hcfg, haint, haintmsk, hprt, dcfg, dctl, dsts, diepmsk, doepmsk, daint, daintmsk, diepempmsk, dieptxf, hcchar, hcint, hcintmsk, hctsiz, diepctl, diepint, dieptsiz, dtxfsts, doepctl, doepint, doeptsiz, fifo}
 use Rattle.dwc2_fifo.specs.Rx.{Entry, first_status, popped, first_word, word_taken}
 use Rattle.device_table.specs.Words.{flag, with_flag, control_word, out_done, kind_of, number_of}
 use Rattle.device_table.specs.Read.{number_of_bits, any_under, has_entry}
-use Rattle.host_table.specs.State.{Table, Channel, Port, Interrupts, Device, DeviceEnd, no_end, channel_at, with_channel}
+use Rattle.host_table.specs.State.{Table, Channel, Port, Interrupts, DeviceEnd, no_end, channel_at, with_channel}
 use Rattle.host_table.specs.Words.{port_word, interrupts_word, channel_word}
 
 -- Interrupts of the channels.

@@ -1,5 +1,5 @@
 -- Bits and fields of the words that the host's registers show and take.
-use Rattle.std.specs.Prelude.{ℕ, ◌/◌, ◌%◌, ◌^◌, ◌==◌, ◌&&◌, ◌||◌, not, Bool, List, [], ◌∷◌, if◌then◌else◌}
+use Rattle.std.specs.Prelude.{ℕ, ◌/◌, ◌%◌, ◌^◌, ◌==◌, ◌&&◌, ◌||◌, not, Bool, [], ◌∷◌, if◌then◌else◌}
 use Rattle.usb_packet.specs.declared.bus.Toggle.{Toggle}
 use Rattle.usb_packet.specs.declared.bus.Toggle.TheVariants.{D0, D1}
 use Rattle.dwc2_regs.specs.declared.TheConstants.{HPRT_PCSTS, HPRT_PCDET, HPRT_PENA, HPRT_PENCHNG, HCCHAR_SIZE, HCCHAR_ENDPOINT, HCCHAR_IN, HCCHAR_TYPE, HCCHAR_ADDRESS, HCCHAR_CHDIS, HCCHAR_CHENA, HCINT_XFRC, HCINT_CHH, HCINT_STALL, HCINT_NAK, HCINT_ACK, HCINT_TXERR, HCINT_DTERR, HCTSIZ_SIZE, HCTSIZ_PID}

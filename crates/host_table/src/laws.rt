@@ -1,5 +1,69 @@
 //! Laws of the controller's steps. The functions do nothing.
+ghost use Rattle.host_table.specs.Laws.{PlainReadsBack, ChannelReadsBack, CountsAreKept, BeyondReadsNothing, OthersStay, ReadsLeave, BusLeavesOthers, LowestTakes, DisabledIsSilent, DetachDisables, NakLeaves, EndsHalt, LandingComesOut, ResetEnables, KeptBits};
 ghost use Rattle.host_table.specs.Examples.{PortReset, SetupSent, SetupAnswered, DescriptorComes, InAnswered, Detached, PacketsStand, FullFifo, OpenedWords, LargeWords};
+
+/// A register that keeps what is written reads as it was written: masks, sizes of FIFOs, configurations, and the mask and
+/// the transfer size of each channel that there is.
+pub fn kept_registers_read_back()
+    ensures plain { PlainReadsBack }
+    ensures channels { ChannelReadsBack }
+{}
+
+/// At the start and once opened, a controller has the endpoints and channels of its profile. The registers of channels
+/// beyond them read 0.
+pub fn profile_counts()
+    ensures counts { CountsAreKept }
+    ensures beyond { BeyondReadsNothing }
+{}
+
+/// An access to one channel's registers or FIFO window leaves all other channels with their packets, the port and the
+/// receive FIFO.
+pub fn other_channels_stay()
+    ensures writes { OthersStay }
+    ensures reads { ReadsLeave }
+{}
+
+/// An answer changes the channel that took the bus, and what lies in the receive FIFO, and nothing else.
+pub fn bus_leaves_others()
+    ensures { BusLeavesOthers }
+{}
+
+/// The channel that takes the bus is the lowest one that is enabled and speaks to that address and endpoint, on an enabled
+/// port. A channel that isn't enabled gets no answer.
+pub fn lowest_channel_takes()
+    ensures lowest { LowestTakes }
+    ensures disabled { DisabledIsSilent }
+{}
+
+/// A detach disables all channels and the port.
+pub fn detach_disables()
+    ensures { DetachDisables }
+{}
+
+/// A NAK leaves the packet, which is sent again.
+pub fn nak_leaves_packet()
+    ensures { NakLeaves }
+{}
+
+/// An answer that ends a transaction sets CHH, or the end of its data does once it is popped.
+pub fn ends_halt()
+    ensures { EndsHalt }
+{}
+
+/// Data that landed in an empty receive FIFO is read byte for byte.
+pub fn landed_data_comes_out()
+    ensures { LandingComesOut }
+{}
+
+/// The port is enabled by the end of a driven reset, and by no other write, read or answer.
+pub fn reset_enables_port()
+    ensures { ResetEnables }
+{}
+
+/// Which bits of HCCHARx and HPRT are kept as written.
+pub fn registers_keep_bits()
+    ensures { KeptBits }
+{}
 
 /// A port reset, a SETUP that is sent, data that comes in, each other answer to both, and a detach, word by word as a driver
 /// writes and reads them; packets in both transmit FIFOs; a full receive FIFO.

@@ -1,0 +1,4 @@
+pub mod FifoLemmas
+pub mod WriteLemmas
+pub mod TakerLemmas
+pub mod BusLemmas
