@@ -220,8 +220,17 @@ pub record Setups : Type 0 where
       (reset ++ (setup 0 get_status, ack) ∷ (Irq, done) ∷ (setup 0 get_device, ack) ∷ served ++ (in_token 0 true, data1 device) ∷ [])
   -- one that comes right after a packet of an older transfer begins with its own first packet
   pub behind : IsAnswered powered
-      (reset ++ asked (get_config 255) ++ (in_token 0 true, data1 full_config) ∷ (setup 0 (get_config 64), ack) ∷ served
-      ++ (in_token 0 true, data1 full_config) ∷ [])
+      (reset ++ asked (get_config 255) ++ (in_token 0 true, data1 full_config) ∷ (setup 0 (get_config 255), ack) ∷ served
+      ++ (in_token 0 true, data1 full_config) ∷ served ++ (in_token 0 true, data0 []) ∷ [])
+  -- a packet that waits for a handler run is dropped by the one that serves a SETUP
+  pub stale : IsAnswered plain
+      (reset ++ (setup 0 get_status, ack) ∷ (Irq, done) ∷ (Task, done) ∷ (setup 0 get_device, ack) ∷ (Irq, done) ∷ (Irq, done) ∷ (in_token 0 true, nak)
+      ∷ (Task, done) ∷ (Irq, done) ∷ (in_token 0 true, data1 device) ∷ [])
+  -- a reset drops those that lie unserved, and the request that waits for a task
+  pub dropped : IsAnswered plain
+      (reset ++ (setup 0 get_status, ack) ∷ reset ++ (Irq, done) ∷ (Task, done) ∷ (Irq, done) ∷ (in_token 0 true, nak) ∷ (setup 0 get_device, ack)
+      ∷ (setup 0 get_device, ack) ∷ (setup 0 get_device, ack) ∷ (setup 0 get_device, none) ∷ (Irq, done) ∷ reset
+      ++ (Task, done) ∷ (Irq, done) ∷ (in_token 0 true, nak) ∷ [])
   -- a packet of the host that was taken belongs to its own transfer
   pub untaken : IsAnswered plain
       (reset ++ read get_device device ++ (out_packet 0 D1 [], ack) ∷ (setup 0 get_device, ack) ∷ (Irq, done) ∷ (out_packet 0 D1 [], nak) ∷ [])
@@ -308,4 +317,4 @@ pub record Sessions : Type 0 where
   pub endpoint : IsAnswered powered
       (reset ++ (other_in 1, none) ∷ (other_out 15 (numbers_from 0 16), none) ∷ passed (set_configuration 3) ++ (other_in 1, nak) ∷ (other_in 2, none)
       ∷ (other_in 15, none) ∷ (other_out 15 (numbers_from 0 16), nak) ∷ (other_out 15 (numbers_from 0 17), none) ∷ (other_out 1 [], none)
-      ∷ (Bus (event.Out 0 15 D0 [] false), none) ∷ [])
+      ∷ (Bus (event.Out 0 15 D0 [] false), none) ∷ passed (set_configuration 0) ++ (other_in 1, none) ∷ [])
