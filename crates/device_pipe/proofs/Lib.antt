@@ -5,3 +5,4 @@ pub mod Again
 pub mod Refused
 pub mod Kept
 pub mod Moves
+pub mod Bounded

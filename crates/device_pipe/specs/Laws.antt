@@ -74,6 +74,15 @@ pub record IsKeptOnce (capacity : ℕ) (link : InLink) : Type 0 where
   -- where the toggles differ there is a packet in doubt
   pub doubt : same_toggle link.toggle link.pipe.toggle ≡ false → 1 ≤ length (left_of link.pipe.phase)
 
+-- what an IN pipe keeps to
+pub record IsBounded (capacity : ℕ) (pipe : InPipe) : Type 0 where
+  -- what lies ready are packets that are left, and not more than two
+  pub ready : pipe.loaded ≤ length (left_of pipe.phase)
+  pub most : pipe.loaded ≤ inward.most_loaded
+  -- the transfer that runs lies in the queue, and that in its capacity
+  pub within : running pipe.phase ≤ length pipe.queue
+  pub fits : length pipe.queue ≤ capacity
+
 -- Packets that a transfer of one or more bytes may have (5.8.3): each but the last has exactly the endpoint's size, and
 -- the last has at most so many bytes and isn't empty
 abbrev pub AreFullBefore : ℕ → List ℕ → List (List ℕ) → Type 0

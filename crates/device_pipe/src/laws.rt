@@ -11,7 +11,7 @@ ghost use Rattle.device_pipe.specs.InPipe as inward;
 ghost use Rattle.device_pipe.specs.InPipe.{InPipe, InEvent, in_answer, cut};
 ghost use Rattle.device_pipe.specs.OutLink.{OutStep, out_run, out_start};
 ghost use Rattle.device_pipe.specs.InLink.{InStep, in_run, in_start};
-ghost use Rattle.device_pipe.specs.Laws.{IsTakenOnce, IsKeptOnce, AreFull, IsUnheard, took, read, DropsNothing, is_data, IsOutOpen, IsInOpen, ClearsNoOut, ClearsNoIn, ArmsNothing, ArmsAndHaltsNothing, RunsNoHandler, InRunsNoHandler, after_sessions, in_answers, rounds};
+ghost use Rattle.device_pipe.specs.Laws.{IsTakenOnce, IsKeptOnce, IsBounded, AreFull, IsUnheard, took, read, DropsNothing, is_data, IsOutOpen, IsInOpen, ClearsNoOut, ClearsNoIn, ArmsNothing, ArmsAndHaltsNothing, RunsNoHandler, InRunsNoHandler, after_sessions, in_answers, rounds};
 ghost use Rattle.device_pipe.specs.OutExamples.{out_successful, out_successful_end, out_not_accepted, out_not_accepted_end, out_unheard, out_unheard_end, out_again, out_again_end};
 ghost use Rattle.device_pipe.specs.InExamples.{in_successful, in_successful_end, in_lost, in_lost_end, in_unheard, in_unheard_end, in_again, in_again_end, in_full, in_full_end};
 
@@ -115,6 +115,12 @@ pub fn only_a_task_arms()
 pub fn only_a_handler_run_loads()
     ensures { (size : ℕ) (capacity : ℕ) (pipe : InPipe) (events : List InEvent) → pipe.loaded ≡ 0 → All InRunsNoHandler events →
         is_data (in_answer (inward.after_events size capacity pipe events)) ≡ false }
+{}
+
+/// What an IN pipe keeps to in every run: what lies ready are packets of the transfer that runs, two at most; that transfer
+/// lies in the queue, and the queue in its capacity.
+pub fn in_bounded()
+    ensures { (size : ℕ) (capacity : ℕ) (events : List InEvent) → IsBounded capacity (inward.after_events size capacity inward.opened events) }
 {}
 
 /// Dropping empties the bytes held of an OUT pipe and changes nothing else. It empties the queue of an IN pipe and ends its
