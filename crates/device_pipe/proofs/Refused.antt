@@ -1,5 +1,5 @@
 -- What a pipe refuses, and what it drops.
-use Rattle.std.proofs.Common.{◌≡◌, ℕ, List, [], ◌∷◌, Bool, true, false, ◌&&◌, if◌then◌else◌, refl, sym, ap, ◌∙◌, true≢false, All, subst, None}
+use Rattle.std.proofs.Common.{◌≡◌, ℕ, List, [], ◌∷◌, Bool, true, false, ◌&&◌, if◌then◌else◌, refl, sym, ap, ◌∙◌, true≢false, All, subst, None, Option, Some}
 use Rattle.std.proofs.lemmas.List.Elements.{All-head, All-tail}
 use Rattle.usb_packet.specs.declared.bus.Toggle.{Toggle}
 use Rattle.usb_packet.specs.declared.bus.Toggle.TheVariants.{D0, D1}
@@ -435,3 +435,121 @@ clear_waits size capacity pipe events n = unloaded_sends_nothing size capacity (
 pub drop_waits : (size : ℕ) (capacity : ℕ) (pipe : InPipe) (events : List InEvent) → All InRunsNoHandler events →
     is_data (in_answer (inward.after_events size capacity (inward.dropped pipe) events)) ≡ false
 drop_waits size capacity pipe events n = unloaded_sends_nothing size capacity (inward.dropped pipe) events refl n
+
+-- an open pipe that isn't halted answers NAK where it takes no packet
+naks_at : (phase : OutPhase) (halted : Bool) → IsOutOpen phase → halted ≡ false → is_ack (answer_at phase halted) ≡ false → answer_at phase halted ≡ answers.Nak
+naks_at (Closed over) halted o e n = elim o [ ]
+naks_at Rest halted o e n = ap (λ h. answer_at Rest h) e
+naks_at Armed true o e n = elim (true≢false e) [ ]
+naks_at Armed false o e n = elim (true≢false n) [ ]
+naks_at (Landed packet) halted o e n = ap (λ h. answer_at (Landed packet) h) e
+naks_at Posted halted o e n = ap (λ h. answer_at Posted h) e
+naks_at Stale halted o e n = ap (λ h. answer_at Stale h) e
+
+pub out_naks : (pipe : OutPipe) → IsOutOpen pipe.phase → pipe.halted ≡ false → is_ack (out_answer pipe) ≡ false → out_answer pipe ≡ answers.Nak
+out_naks pipe o e n = naks_at pipe.phase pipe.halted o e n
+
+sent_naks : (t : Toggle) (next : Option (List ℕ)) → is_data (inward.sent t next) ≡ false → inward.sent t next ≡ answers.Nak
+sent_naks t None n = refl
+sent_naks t (Some packet) n = elim (true≢false n) [ ]
+
+in_naks_at : (phase : InPhase) (halted : Bool) (t : Toggle) (next : Option (List ℕ)) → IsInOpen phase → halted ≡ false →
+    is_data (if inward.is_closed phase then answers.NoAnswer else (if halted then answers.Stall else inward.sent t next)) ≡ false →
+    (if inward.is_closed phase then answers.NoAnswer else (if halted then answers.Stall else inward.sent t next)) ≡ answers.Nak
+in_naks_at inward.Closed halted t next o e n = elim o [ ]
+in_naks_at inward.Rest true t next o e n = elim (true≢false e) [ ]
+in_naks_at inward.Rest false t next o e n = sent_naks t next n
+in_naks_at (inward.Running k left) true t next o e n = elim (true≢false e) [ ]
+in_naks_at (inward.Running k left) false t next o e n = sent_naks t next n
+in_naks_at (inward.Posted k) true t next o e n = elim (true≢false e) [ ]
+in_naks_at (inward.Posted k) false t next o e n = sent_naks t next n
+
+-- and an IN pipe where it sends none
+pub in_naks : (pipe : InPipe) → IsInOpen pipe.phase → pipe.halted ≡ false → is_data (in_answer pipe) ≡ false → in_answer pipe ≡ answers.Nak
+in_naks pipe o e n = in_naks_at pipe.phase pipe.halted pipe.toggle (inward.next_packet pipe.phase pipe.loaded) o e n
+
+-- a closed pipe stays so
+abbrev IsShut : OutPhase → Type 0
+IsShut (Closed over) = Unit {0}
+IsShut Rest = ⊥
+IsShut Armed = ⊥
+IsShut (Landed packet) = ⊥
+IsShut Posted = ⊥
+IsShut Stale = ⊥
+
+shut_answer : (phase : OutPhase) (halted : Bool) → IsShut phase → answer_at phase halted ≡ answers.NoAnswer
+shut_answer (Closed over) halted i = refl
+shut_answer Rest halted i = elim i [ ]
+shut_answer Armed halted i = elim i [ ]
+shut_answer (Landed packet) halted i = elim i [ ]
+shut_answer Posted halted i = elim i [ ]
+shut_answer Stale halted i = elim i [ ]
+
+shut_irq : (phase : OutPhase) → IsShut phase → IsShut (phase_after_irq phase)
+shut_irq (Closed over) i = tt
+shut_irq Rest i = elim i [ ]
+shut_irq Armed i = elim i [ ]
+shut_irq (Landed packet) i = elim i [ ]
+shut_irq Posted i = elim i [ ]
+shut_irq Stale i = elim i [ ]
+
+shut_task : (phase : OutPhase) → IsShut phase → IsShut (phase_after_task phase)
+shut_task (Closed over) i = tt
+shut_task Rest i = elim i [ ]
+shut_task Armed i = elim i [ ]
+shut_task (Landed packet) i = elim i [ ]
+shut_task Posted i = elim i [ ]
+shut_task Stale i = elim i [ ]
+
+shut_armed : (phase : OutPhase) (halted : Bool) → IsShut phase → IsShut (phase_armed phase halted)
+shut_armed (Closed over) halted i = tt
+shut_armed Rest halted i = elim i [ ]
+shut_armed Armed halted i = elim i [ ]
+shut_armed (Landed packet) halted i = elim i [ ]
+shut_armed Posted halted i = elim i [ ]
+shut_armed Stale halted i = elim i [ ]
+
+shut_deed : (pipe : OutPipe) (d : OutDeed) → IsShut pipe.phase → IsShut (after_deed pipe d).phase
+shut_deed pipe Irq i = shut_irq pipe.phase i
+shut_deed pipe Task i = shut_task pipe.phase i
+shut_deed pipe Arms i = shut_armed pipe.phase pipe.halted i
+shut_deed pipe (Reads n) i = i
+shut_deed pipe Halts i = i
+
+shut_event : (pipe : OutPipe) (e : OutEvent) → IsShut pipe.phase → IsShut (after_event pipe e).phase
+shut_event pipe (Packet toggle bytes) i =
+    subst (λ (q : OutPipe). IsShut q.phase) (sym (unacknowledged pipe toggle bytes (ap is_ack (shut_answer pipe.phase pipe.halted i)))) i
+shut_event pipe (Does d) i = shut_deed pipe d i
+shut_event pipe Clears i = i
+shut_event pipe Drops i = i
+
+shut_run : (pipe : OutPipe) (events : List OutEvent) → IsShut pipe.phase → out_answer (after_events pipe events) ≡ answers.NoAnswer
+shut_run pipe [] i = shut_answer pipe.phase pipe.halted i
+shut_run pipe (e ∷ events) i = shut_run (after_event pipe e) events (shut_event pipe e i)
+
+pub silent : (pipe : OutPipe) (events : List OutEvent) → out_answer (after_events (closed pipe) events) ≡ answers.NoAnswer
+silent pipe events = shut_run (closed pipe) events tt
+
+in_silent_at : (pipe : InPipe) → pipe.phase ≡ inward.Closed → in_answer pipe ≡ answers.NoAnswer
+in_silent_at pipe e = ap (λ p. if inward.is_closed p then answers.NoAnswer else (if pipe.halted then answers.Stall else inward.sent pipe.toggle (inward.next_packet pipe.phase pipe.loaded))) e
+
+in_shut_deed : (size capacity : ℕ) (pipe : InPipe) (d : InDeed) → pipe.phase ≡ inward.Closed → (inward.after_deed size capacity pipe d).phase ≡ inward.Closed
+in_shut_deed size capacity pipe inward.Irq e = ap (λ p. (inward.served pipe p).phase) e ∙ e
+in_shut_deed size capacity pipe inward.Task e = ap inward.phase_after_task e
+in_shut_deed size capacity pipe inward.Starts e = ap (λ p. inward.phase_started size pipe.queue p) e
+in_shut_deed size capacity pipe (inward.Writes bytes) e = e
+in_shut_deed size capacity pipe inward.Halts e = e
+
+in_shut_event : (size capacity : ℕ) (pipe : InPipe) (s : InEvent) → pipe.phase ≡ inward.Closed → (inward.after_event size capacity pipe s).phase ≡ inward.Closed
+in_shut_event size capacity pipe (inward.Token ok) e = ap (λ (q : InPipe). q.phase) (unanswered pipe ok (ap is_data (in_silent_at pipe e))) ∙ e
+in_shut_event size capacity pipe (inward.Does d) e = in_shut_deed size capacity pipe d e
+in_shut_event size capacity pipe inward.Clears e = ap inward.at_rest e
+in_shut_event size capacity pipe inward.Drops e = ap inward.at_rest e
+
+in_shut_run : (size capacity : ℕ) (pipe : InPipe) (events : List InEvent) → pipe.phase ≡ inward.Closed →
+    in_answer (inward.after_events size capacity pipe events) ≡ answers.NoAnswer
+in_shut_run size capacity pipe [] e = in_silent_at pipe e
+in_shut_run size capacity pipe (s ∷ events) e = in_shut_run size capacity (inward.after_event size capacity pipe s) events (in_shut_event size capacity pipe s e)
+
+pub in_silent : (size : ℕ) (capacity : ℕ) (events : List InEvent) → in_answer (inward.after_events size capacity inward.closed events) ≡ answers.NoAnswer
+in_silent size capacity events = in_shut_run size capacity inward.closed events refl

@@ -88,12 +88,14 @@ pub fn clear()
 {}
 
 /// Where a pipe answers NAK, STALL or nothing, the packet or the token changes nothing; nor does a token whose packet isn't
-/// acknowledged. A halted pipe answers STALL to every packet and token until its halt is cleared, so it takes none and sends
+/// acknowledged. An open pipe that takes or sends none answers NAK. A halted pipe answers STALL to every packet and token until its halt is cleared, so it takes none and sends
 /// none (8.4.5, 9.4.5).
 pub fn refused()
     ensures out_packet { (pipe : OutPipe) (toggle : Toggle) (packet : List ℕ) → is_ack (out_answer pipe) ≡ false → out.after_packet pipe toggle packet ≡ pipe }
     ensures in_token { (pipe : InPipe) (ok : Bool) → is_data (in_answer pipe) ≡ false → inward.after_token pipe ok ≡ pipe }
     ensures unheard { (pipe : InPipe) → inward.after_token pipe false ≡ pipe }
+    ensures out_nak { (pipe : OutPipe) → IsOutOpen pipe.phase → pipe.halted ≡ false → is_ack (out_answer pipe) ≡ false → out_answer pipe ≡ answers.Nak }
+    ensures in_nak { (pipe : InPipe) → IsInOpen pipe.phase → pipe.halted ≡ false → is_data (in_answer pipe) ≡ false → in_answer pipe ≡ answers.Nak }
     ensures out_halted { (pipe : OutPipe) (events : List OutEvent) → pipe.halted ≡ true → IsOutOpen pipe.phase → All ClearsNoOut events →
         out_answer (out.after_events pipe events) ≡ answers.Stall }
     ensures in_halted { (size : ℕ) (capacity : ℕ) (pipe : InPipe) (events : List InEvent) → pipe.halted ≡ true → IsInOpen pipe.phase → All ClearsNoIn events →
@@ -169,12 +171,12 @@ pub fn moves_packets()
         Some n }
 {}
 
-/// A pipe that is closed answers nothing and holds nothing. Where a packet that was dropped with it still lies in the receive
+/// A pipe that is closed answers nothing, whatever comes, and holds nothing. Where a packet that was dropped with it still lies in the receive
 /// FIFO, an OUT pipe that is opened takes no packet until a handler run has passed over that one, in however many sessions; from
 /// then on it serves as every other, at DATA0 and with nothing held (9.1.1.5).
 pub fn opened_and_closed()
-    ensures silent { (pipe : OutPipe) → out_answer (out.closed pipe) ≡ answers.NoAnswer }
-    ensures in_silent { in_answer inward.closed ≡ answers.NoAnswer }
+    ensures silent { (pipe : OutPipe) (events : List OutEvent) → out_answer (out.after_events (out.closed pipe) events) ≡ answers.NoAnswer }
+    ensures in_silent { (size : ℕ) (capacity : ℕ) (events : List InEvent) → in_answer (inward.after_events size capacity inward.closed events) ≡ answers.NoAnswer }
     ensures empty { (pipe : OutPipe) → (out.closed pipe).held ≡ [] }
     ensures fresh { (pipe : OutPipe) → (out.opened pipe).held ++ landed (out.opened pipe).phase ≡ [] }
     ensures toggle { (pipe : OutPipe) → (out.opened pipe).toggle ≡ D0 }

@@ -1,5 +1,11 @@
-use Rattle.device_pipe.proofs.Refused.{stale_refuses, over_refuses, rests}
+use Rattle.device_pipe.proofs.Refused.{stale_refuses, over_refuses, rests, silent, in_silent}
 use Rattle.device_pipe.proofs.laws.opened_and_closed.Goals as goal
+
+pub returns-clause-silent : goal.returns-clause-silent
+returns-clause-silent c = silent
+
+pub returns-clause-in_silent : goal.returns-clause-in_silent
+returns-clause-in_silent c = in_silent
 
 pub returns-clause-stale : goal.returns-clause-stale
 returns-clause-stale c = stale_refuses
