@@ -1,5 +1,5 @@
 -- What answers and a detach leave and do.
-use Rattle.std.proofs.Common.{◌≡◌, ℕ, ◌<◌, List, length, true, false, Option, Some, None, inl, inr, refl, ap, ap₂, sym, ◌∙◌, get_or-set_other, get_or-set_same}
+use Rattle.std.proofs.Common.{◌≡◌, ℕ, ◌<◌, List, length, true, false, Option, Some, None, ◌⊎◌, inl, inr, refl, ap, ap₂, sym, ◌∙◌, get_or-set_other, get_or-set_same}
 use Rattle.std.specs.Prelude.{if◌then◌else◌}
 use Rattle.std.proofs.lemmas.Bool.{cases_eq, both_ways}
 use Rattle.usb_packet.specs.declared.bus.Toggle.{Toggle}
@@ -9,7 +9,8 @@ use Rattle.host_table.specs.declared.sent.HostSent.{HostSent}
 use Rattle.host_table.specs.declared.sent.HostSent.TheVariants as sent
 use Rattle.host_table.specs.State.{Table, Channel, Interrupts, no_channel, channel_at, with_channel}
 use Rattle.host_table.specs.Bus.{Outcome, acked, naked, stalled, unanswered, wrong_pid, lands, taker, offer, offer_of, sent_by, ended, goes_on, data_landed, after_outcome, outcome_of, after_some, after_answer, disabled}
-use Rattle.host_table.specs.Laws.{OthersSame, AnswerLeaves, BusLeavesOthers, DisabledIsSilent, DetachDisables, GoesOn, NakLeaves, HaltsOrLands, EndsHalt}
+use Rattle.host_table.specs.Laws.{OthersSame, AnswerLeaves, BusLeavesOthers, DisabledIsSilent, DetachDisables, GoesOn, NakLeaves, Halted, HaltsOrLands, EndsHalt}
+use Rattle.host_table.proofs.CountLemmas.{removed}
 use Rattle.host_table.proofs.WriteLemmas.{set_leaves, removal_leaves, unchanged_leaves}
 use Rattle.host_table.proofs.TakerLemmas.{taker_enabled, taker_inside, none_enabled, lowest-interrupts, kept-interrupts, hctsiz-interrupts}
 
@@ -117,8 +118,18 @@ nak_leaves t addr ep = nak_after t addr ep (taker t addr ep)
 set_at : (t : Table) (x : ℕ) (channel : Channel) → x < length t.channels → channel_at (with_channel t x channel) x ≡ channel
 set_at t x channel h = get_or-set_same t.channels x channel no_channel h
 
-halted : (t : Table) (x : ℕ) (it : Interrupts) → x < length t.channels → (channel_at (ended t x it) x).interrupts.chh ≡ it.chh
-halted t x it h = ap (λ (c : Channel). c.interrupts.chh) (set_at t x (record (channel_at t x) { enabled = false; interrupts = it }) h)
+-- the parts of its end
+halted : (t : Table) (x : ℕ) (it : Interrupts) → x < length t.channels → it.chh ≡ true
+    → (it.xfrc ≡ true) ⊎ ((it.stall ≡ true) ⊎ (it.txerr ≡ true)) → Halted x t (ended t x it)
+halted t x it h chh reason =
+    let is : channel_at (ended t x it) x ≡ record (channel_at t x) { enabled = false; interrupts = it } =
+    set_at t x (record (channel_at t x) { enabled = false; interrupts = it }) h in
+    record {
+      chh = ap (λ (c : Channel). c.interrupts.chh) is ∙ chh;
+      reason = rw is reason;
+      nonperiodic = λ few. removed x t.nonperiodic few;
+      periodic = λ few. removed x t.periodic few;
+    }
 
 still_enabled : (t : Table) (x : ℕ) (it : Interrupts) → x < length t.channels → (channel_at t x).enabled ≡ true → (channel_at (goes_on t x it) x).enabled ≡ false → ⊥
 still_enabled t x it h on off =
@@ -127,10 +138,10 @@ still_enabled t x it h on off =
 outcome_halts : (t : Table) (x : ℕ) (outcome : Option Outcome) → x < length t.channels → (channel_at t x).enabled ≡ true
     → (channel_at (after_some t x outcome) x).enabled ≡ false → HaltsOrLands x t (after_some t x outcome)
 outcome_halts t x None h on off = absurd (both_ways (channel_at t x).enabled off on)
-outcome_halts t x (Some acked) h on off = inl (halted t x (record (channel_at t x).interrupts { ack = true; xfrc = true; chh = true }) h)
+outcome_halts t x (Some acked) h on off = inl (halted t x (record (channel_at t x).interrupts { ack = true; xfrc = true; chh = true }) h refl (inl refl))
 outcome_halts t x (Some naked) h on off = absurd (still_enabled t x (record (channel_at t x).interrupts { nak = true }) h on off)
-outcome_halts t x (Some stalled) h on off = inl (halted t x (record (channel_at t x).interrupts { stall = true; chh = true }) h)
-outcome_halts t x (Some unanswered) h on off = inl (halted t x (record (channel_at t x).interrupts { txerr = true; chh = true }) h)
+outcome_halts t x (Some stalled) h on off = inl (halted t x (record (channel_at t x).interrupts { stall = true; chh = true }) h refl (inr (inl refl)))
+outcome_halts t x (Some unanswered) h on off = inl (halted t x (record (channel_at t x).interrupts { txerr = true; chh = true }) h refl (inr (inr refl)))
 outcome_halts t x (Some wrong_pid) h on off = absurd (still_enabled t x (record (channel_at t x).interrupts { dterr = true }) h on off)
 outcome_halts t x (Some (lands toggle bytes)) h on off = inr (toggle, bytes, refl)
 

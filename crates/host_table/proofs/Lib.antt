@@ -1,4 +1,6 @@
 pub mod FifoLemmas
+pub mod CountLemmas
+pub mod WindowLemmas
 pub mod WriteLemmas
 pub mod TakerLemmas
 pub mod BusLemmas

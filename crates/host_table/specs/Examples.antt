@@ -1,5 +1,5 @@
 -- Words that are known from outside.
-use Rattle.std.specs.Prelude.{◌≡◌, ℕ, List, [], ◌∷◌, replicate}
+use Rattle.std.specs.Prelude.{◌≡◌, ℕ, zero, suc, true, false, List, [], ◌∷◌, replicate}
 use Rattle.usb_packet.specs.declared.bus.Toggle.TheVariants.{D0, D1}
 use Rattle.usb_packet.specs.declared.bus.BusAnswer.{BusAnswer}
 use Rattle.usb_packet.specs.declared.bus.BusAnswer.TheVariants as answers
@@ -10,7 +10,6 @@ use Rattle.host_table.specs.State.{Table, opened, plan_words}
 use Rattle.host_table.specs.Read.{read_value, read_table}
 use Rattle.host_table.specs.Write.{write_table}
 use Rattle.host_table.specs.Bus.{after_attach, after_detach, reset_asked, after_reset_asked, offer, after_xact}
-use Rattle.std.specs.Prelude.{true, false}
 
 -- several writes, each an offset and a word
 abbrev pub writes : Table → List (ℕ × ℕ) → Table
@@ -72,6 +71,43 @@ pub record SetupSent : Type 0 where
   -- and enabling it again sends nothing, since its packet left
   pub gone : offer (write_table (after_setup answers.Ack) 0x500 0x80000040) 0 0 ≡ sent.Idle
 
+-- What may be sent otherwise: a size of 0 and one above 64 count as 64; a packet has at most the channel's size; a SETUP of
+-- four bytes isn't sent; CHDIS removes a packet that is only begun, and another may begin.
+
+abbrev pub two_words : List (ℕ × ℕ)
+two_words = (0x1000, 0x01000680) ∷ (0x1000, 0x00080000) ∷ []
+
+abbrev pub word_after_word : ℕ → Table → ℕ → Table
+word_after_word zero t off = t
+word_after_word (suc n) t off = word_after_word n (write_table t off 0x11111111) off
+
+-- four interrupt channels have a periodic FIFO of two packets
+abbrev pub four : Profile
+four = record { in_eps = 2; out_eps = 1; channels = 4; ram_words = 256 }
+
+abbrev pub three_senders : Table
+three_senders =
+    writes (after_attach (opened four))
+    ((0x440, 0x00001102) ∷ (0x440, 0x00001000)
+    ∷ (0x510, 0x00080040) ∷ (0x500, 0x800c0840) ∷ (0x530, 0x00080040) ∷ (0x520, 0x800c1040) ∷ (0x550, 0x00080040) ∷ (0x540, 0x800c1840) ∷ [])
+
+abbrev pub three_sent : Table
+three_sent = word_after_word 16 (word_after_word 16 (word_after_word 16 three_senders 0x1000) 0x2000) 0x3000
+
+pub record OtherPackets : Type 0 where
+  pub size_0 : offer (writes at_reset ((0x510, 0x60080008) ∷ (0x500, 0x80000000) ∷ two_words)) 0 0 ≡ sent.Setup setup
+  pub size_above : offer (word_after_word 16 (writes at_reset ((0x510, 0x00080064) ∷ (0x500, 0x80000065) ∷ [])) 0x1000) 0 0 ≡ sent.Out D0 (replicate 64 0x11)
+  pub cut : offer (writes at_reset ((0x510, 0x00080012) ∷ (0x500, 0x80000008) ∷ two_words)) 0 0 ≡ sent.Out D0 setup
+  pub four_bytes : offer (writes at_reset ((0x510, 0x60080004) ∷ (0x500, 0x80000040) ∷ (0x1000, 0x01000680) ∷ [])) 0 0 ≡ sent.Idle
+  pub begun_anew : offer (writes at_half ((0x500, 0xc0000040) ∷ two_words)) 0 0 ≡ sent.Setup setup
+  pub removed : offer (writes at_half ((0x500, 0xc0000040) ∷ (0x1000, 0x00080000) ∷ [])) 0 0 ≡ sent.Idle
+  -- the third packet finds no room, and does once another left
+  pub second : offer three_sent 0 2 ≡ sent.Out D0 (replicate 64 0x11)
+  pub third : offer three_sent 0 3 ≡ sent.Idle
+  pub room_again : offer (word_after_word 16 (after_xact three_sent 0 1 answers.Ack) 0x3000) 0 3 ≡ sent.Out D0 (replicate 64 0x11)
+  -- of two channels to one endpoint the lower one takes the bus
+  pub lower : offer (writes three_sent ((0x560, 0x800c1040) ∷ (0x570, 0x40080000) ∷ [])) 0 2 ≡ sent.Out D0 (replicate 64 0x11)
+
 -- What the other answers do to that SETUP: NAK; STALL and CHH; TXERR and CHH where nothing fits.
 pub record SetupAnswered : Type 0 where
   pub nak : read_value (after_setup answers.Nak) 0x508 ≡ 0x00000010
@@ -80,10 +116,15 @@ pub record SetupAnswered : Type 0 where
   pub stalled : read_value (after_setup answers.Stall) 0x500 ≡ 0x00000040
   pub none : read_value (after_setup answers.NoAnswer) 0x508 ≡ 0x00000082
   pub unfit : read_value (after_setup (answers.Data D1 [])) 0x508 ≡ 0x00000082
+  -- after each end its packet is gone
   pub gone : offer (write_table (after_setup answers.NoAnswer) 0x500 0x80000040) 0 0 ≡ sent.Idle
+  pub gone_too : offer (write_table (after_setup answers.Stall) 0x500 0x80000040) 0 0 ≡ sent.Idle
   -- HCINT0 and HAINT's bit 0, and HCINT of GINTSTS beside HPRTINT
   pub all : read_value (after_setup answers.Stall) 0x414 ≡ 0x00000001
   pub core : read_value (after_setup answers.Stall) 0x014 ≡ 0x03000000
+  -- under HAINTMSK 0, and under HCINTMSK0 0
+  pub core_masked : read_value (write_table (after_setup answers.Stall) 0x418 0) 0x014 ≡ 0x01000000
+  pub masked : read_value (write_table (after_setup answers.Stall) 0x50c 0) 0x414 ≡ 0
   -- a 1 clears
   pub cleared : read_value (write_table (after_setup answers.Stall) 0x508 0x00000008) 0x508 ≡ 0x00000002
 
@@ -141,6 +182,7 @@ pub record InAnswered : Type 0 where
   pub ack : read_value (after_in answers.Ack) 0x528 ≡ 0x00000082
   pub done : read_value (after_in answers.Done) 0x528 ≡ 0x00000082
   pub too_long : read_value (after_xact (write_table at_in 0x520 0x80008008) 0 0x80 (answers.Data D1 (0 ∷ descriptor))) 0x528 ≡ 0x00000082
+  pub longer_other_pid : read_value (after_xact (write_table at_in 0x520 0x80008008) 0 0x80 (answers.Data D0 (0 ∷ descriptor))) 0x528 ≡ 0x00000082
   pub fits : read_value (after_xact (write_table at_in 0x520 0x80008008) 0 0x80 (answers.Data D1 descriptor)) 0x020 ≡ 0x00050081
 
 -- The device is detached while the descriptor is awaited: PENA and PCSTS are 0, DISCINT is 1 beside HPRTINT, and no channel
@@ -157,7 +199,7 @@ pub record Detached : Type 0 where
   -- attaching again doesn't enable the port
   pub again : read_value (after_attach detached) 0x440 ≡ 0x0000100b
   -- and attaching twice changes nothing
-  pub twice : after_attach at_attach ≡ at_attach
+  pub twice : after_attach at_reset ≡ at_reset
 
 -- Transmit FIFOs. Channel 2 is of type 3 (HCCHAR2 000c0840: endpoint 1, 64 bytes) and channel 3 of type 2 (HCCHAR3
 -- 00081040: endpoint 2, 64 bytes). Each has five bytes with DATA0, in two words.
@@ -216,8 +258,25 @@ pub record FullFifo : Type 0 where
   pub no_room : read_value (after_xact filled 0 0x80 (answers.Data D0 [])) 0x508 ≡ 0x00000082
   -- the other PID asks for no room
   pub other_pid : read_value (after_xact filled 0 0x80 (answers.Data D1 [])) 0x508 ≡ 0x00000400
+  -- nor do they find room beside 60 bytes, where one word is left
+  pub one_left : read_value (after_xact (write_table (after_xact small_in 0 0x80 (answers.Data D0 (replicate 60 0x55))) 0x500 0x80008040) 0 0x80 (answers.Data D0 [])) 0x508 ≡ 0x00000082
   -- RXFFLSH empties it
   pub flushed : read_value (write_table filled 0x010 0x00000010) 0x020 ≡ 0
+
+-- The device's registers in host mode: EPDIS in DIEPCTL1 disables and sets EPDISD, which DAINT and IEPINT show, and a 1
+-- clears it.
+
+abbrev pub end_disabled : Table
+end_disabled = writes (opened FS4) ((0x920, 0x80000040) ∷ (0x920, 0x48000040) ∷ [])
+
+pub record DeviceRegisters : Type 0 where
+  pub control : read_value end_disabled 0x920 ≡ 0x00020040
+  pub interrupts : read_value end_disabled 0x928 ≡ 0x00000002
+  pub all : read_value end_disabled 0x818 ≡ 0x00000002
+  pub core : read_value end_disabled 0x014 ≡ 0x00040000
+  pub cleared : read_value (write_table end_disabled 0x928 0x00000002) 0x014 ≡ 0
+  pub free_words : read_value end_disabled 0x938 ≡ 0
+  pub out_side : read_value (write_table (opened FS4) 0xb20 0x40000000) 0x014 ≡ 0x00080000
 
 -- The opened state of an `FS4`: FIFOs of 144, 128 and 48 words, which are all of its 320, and eight channels.
 pub record OpenedWords : Type 0 where

@@ -1,20 +1,20 @@
 -- Laws of the steps.
-use Rattle.std.specs.Prelude.{◌≡◌, ◌≢◌, ℕ, ◌+◌, ◌*◌, ◌/◌, ◌%◌, ◌^◌, ◌<◌, ◌≤◌, ◌||◌, ◌⊎◌, Bool, true, false, IsTrue, List, [], ◌++◌, length, Option, Some, None}
+use Rattle.std.specs.Prelude.{◌≡◌, ◌≢◌, ℕ, ◌+◌, ◌*◌, ◌/◌, ◌%◌, ◌^◌, ◌<◌, ◌≤◌, ◌==◌, ◌||◌, ◌⊎◌, Bool, true, false, IsTrue, if◌then◌else◌, List, [], ◌∷◌, ◌++◌, length, slice_index, Option, Some, None, is_some}
 use Rattle.usb_packet.specs.declared.bus.Toggle.{Toggle}
 use Rattle.usb_packet.specs.declared.bus.BusAnswer.{BusAnswer}
 use Rattle.usb_packet.specs.declared.bus.BusAnswer.TheVariants as answers
 use Rattle.dwc2_regs.specs.declared.access.Profile.{Profile}
 use Rattle.dwc2_regs.specs.Register.{Register, grxstsp, hprt, hcchar, hcint, hcintmsk, hctsiz, fifo}
-use Rattle.dwc2_fifo.specs.Words.{words_of}
-use Rattle.dwc2_fifo.specs.Tx.{first_with}
+use Rattle.dwc2_fifo.specs.Words.{words_of, word_count}
+use Rattle.dwc2_fifo.specs.Tx.{Tagged, Begun, Tx, space_of, first_with}
 use Rattle.device_table.specs.Words.{pid_of, status_word, out_data, out_done}
 use Rattle.device_table.specs.Laws.{is_plain}
 use Rattle.device_table.specs.Bus.{out_entries}
 use Rattle.host_table.specs.declared.sent.HostSent.TheVariants as sent
-use Rattle.host_table.specs.State.{Table, Port, first, opened, channel_at}
-use Rattle.host_table.specs.Words.{kept_bits, port_bits}
+use Rattle.host_table.specs.State.{Table, Port, Channel, first, opened, channel_at}
+use Rattle.host_table.specs.Words.{kept_bits, port_bits, is_periodic, is_nonperiodic}
 use Rattle.host_table.specs.Read.{value_read, after_read, received_all}
-use Rattle.host_table.specs.Write.{after_write, drives_reset}
+use Rattle.host_table.specs.Write.{after_write, packet_length, drives_reset}
 use Rattle.host_table.specs.Bus.{asks, taker, offer, after_xact, after_attach, after_detach, data_landed}
 
 -- What is read back.
@@ -127,10 +127,37 @@ pub record GoesOn (t new : Table) (addr ep : ℕ) : Type 0 where
 abbrev pub NakLeaves : Type 0
 NakLeaves = (t : Table) (addr ep : ℕ) → GoesOn t (after_xact t addr ep answers.Nak) addr ep
 
--- a channel that an answer disables has CHH, or its data landed behind all entries, and popping their end sets CHH
+-- how many packets of a channel a transmit FIFO has, whole ones and the one that is begun
+abbrev pub whole_of : ℕ → List Tagged → ℕ
+whole_of tag [] = 0
+whole_of tag (packet ∷ packets) = (if packet.tag == tag then 1 else 0) + whole_of tag packets
+
+abbrev pub begun_of : ℕ → Option Begun → ℕ
+begun_of tag None = 0
+begun_of tag (Some begun) = if begun.tag == tag then 1 else 0
+
+abbrev pub standing : ℕ → Tx → ℕ
+standing tag tx = whole_of tag tx.packets + begun_of tag tx.unfinished
+
+-- no register write makes a channel have two packets in a FIFO
+pub record KeepsOne (y : ℕ) (old new : Table) : Type 0 where
+  pub nonperiodic : standing y old.nonperiodic ≤ 1 → standing y new.nonperiodic ≤ 1
+  pub periodic : standing y old.periodic ≤ 1 → standing y new.periodic ≤ 1
+
+abbrev pub OnePacketEach : Type 0
+OnePacketEach = (register : Register) (t : Table) (word y : ℕ) → KeepsOne y t (after_write t register word)
+
+-- CHH stands beside what ended the transaction, and no packet of the channel is left
+pub record Halted (x : ℕ) (old new : Table) : Type 0 where
+  pub chh : (channel_at new x).interrupts.chh ≡ true
+  pub reason : ((channel_at new x).interrupts.xfrc ≡ true) ⊎ (((channel_at new x).interrupts.stall ≡ true) ⊎ ((channel_at new x).interrupts.txerr ≡ true))
+  pub nonperiodic : standing x old.nonperiodic ≤ 1 → standing x new.nonperiodic ≡ 0
+  pub periodic : standing x old.periodic ≤ 1 → standing x new.periodic ≡ 0
+
+-- a channel that an answer disables is halted, or its data landed behind all entries, and popping their end sets CHH
 abbrev pub HaltsOrLands : ℕ → Table → Table → Type 0
 HaltsOrLands x old new =
-    ((channel_at new x).interrupts.chh ≡ true)
+    Halted x old new
     ⊎ ((toggle : Toggle) × (bytes : List ℕ) × (new.rx.entries ≡ old.rx.entries ++ out_entries x toggle bytes))
 
 abbrev pub EndsHalt : Type 0
@@ -138,6 +165,39 @@ EndsHalt =
     (t : Table) (addr ep x : ℕ) (answered : BusAnswer) → taker t addr ep ≡ Some x
     → (channel_at (after_xact t addr ep answered) x).enabled ≡ false
     → HaltsOrLands x t (after_xact t addr ep answered)
+
+-- What is written through a window is sent.
+
+-- words go through the window of a channel, one after another
+abbrev pub words_written : Table → ℕ → List ℕ → Table
+words_written t x [] = t
+words_written t x (word ∷ words) = words_written (after_write t (fifo x) word) x words
+
+-- the channel's transfer is these bytes, no packet of it stands in the FIFO, none is begun there, and there is room
+pub record IsReady (channel : Channel) (x : ℕ) (tx : Tx) (packet : List ℕ) : Type 0 where
+  pub wanted : packet_length channel ≡ length packet
+  pub some : 1 ≤ length packet
+  pub bytes : (i : ℕ) → slice_index packet i < 256
+  pub free : tx.unfinished ≡ None
+  pub none : is_some (first_with x tx.packets) ≡ false
+  pub room : word_count (length packet) ≤ space_of tx
+
+abbrev pub with_packet : Tx → ℕ → List ℕ → Tx
+with_packet tx x packet = record tx { packets = tx.packets ++ record { tag = x; bytes = packet } ∷ []; unfinished = None }
+
+-- then its words make it the last whole packet of that FIFO, byte for byte, and change nothing else
+pub record Stands (t : Table) (x : ℕ) (packet : List ℕ) : Type 0 where
+  pub bulk : is_nonperiodic (channel_at t x) ≡ true → IsReady (channel_at t x) x t.nonperiodic packet
+      → words_written t x (words_of packet) ≡ record t { nonperiodic = with_packet t.nonperiodic x packet }
+  pub interrupt : is_periodic (channel_at t x) ≡ true → IsReady (channel_at t x) x t.periodic packet
+      → words_written t x (words_of packet) ≡ record t { periodic = with_packet t.periodic x packet }
+
+abbrev pub WrittenStands : Type 0
+WrittenStands = (t : Table) (x : ℕ) (packet : List ℕ) → Stands t x packet
+
+-- a SETUP that is sent has eight bytes
+abbrev pub SetupsAreEight : Type 0
+SetupsAreEight = (t : Table) (addr ep : ℕ) (packet : List ℕ) → offer t addr ep ≡ sent.Setup packet → length packet ≡ 8
 
 -- data that landed in an empty receive FIFO is read byte for byte: its status, its words, and the end that sets ACK, XFRC
 -- and CHH of its channel

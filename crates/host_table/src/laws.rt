@@ -1,6 +1,6 @@
 //! Laws of the controller's steps. The functions do nothing.
-ghost use Rattle.host_table.specs.Laws.{PlainReadsBack, ChannelReadsBack, CountsAreKept, BeyondReadsNothing, OthersStay, ReadsLeave, BusLeavesOthers, LowestTakes, DisabledIsSilent, DetachDisables, NakLeaves, EndsHalt, LandingComesOut, ResetEnables, KeptBits};
-ghost use Rattle.host_table.specs.Examples.{PortReset, SetupSent, SetupAnswered, DescriptorComes, InAnswered, Detached, PacketsStand, FullFifo, OpenedWords, LargeWords};
+ghost use Rattle.host_table.specs.Laws.{PlainReadsBack, ChannelReadsBack, CountsAreKept, BeyondReadsNothing, OthersStay, ReadsLeave, BusLeavesOthers, LowestTakes, DisabledIsSilent, DetachDisables, NakLeaves, OnePacketEach, EndsHalt, WrittenStands, SetupsAreEight, LandingComesOut, ResetEnables, KeptBits};
+ghost use Rattle.host_table.specs.Examples.{PortReset, SetupSent, OtherPackets, SetupAnswered, DescriptorComes, InAnswered, Detached, PacketsStand, FullFifo, DeviceRegisters, OpenedWords, LargeWords};
 
 /// A register that keeps what is written reads as it was written: masks, sizes of FIFOs, configurations, and the mask and
 /// the transfer size of each channel that there is.
@@ -45,9 +45,22 @@ pub fn nak_leaves_packet()
     ensures { NakLeaves }
 {}
 
-/// An answer that ends a transaction sets CHH, or the end of its data does once it is popped.
+/// An answer that ends a transaction sets CHH beside XFRC, STALL or TXERR and leaves no packet of the channel, or the end of
+/// its data sets CHH once it is popped.
 pub fn ends_halt()
     ensures { EndsHalt }
+{}
+
+/// A channel has one packet at a time in a transmit FIFO.
+pub fn one_packet_each()
+    ensures { OnePacketEach }
+{}
+
+/// A packet that is written word by word through a channel's window stands in the FIFO of its type, byte for byte. A SETUP
+/// that is sent has eight bytes.
+pub fn written_packets_stand()
+    ensures packet { WrittenStands }
+    ensures setup { SetupsAreEight }
 {}
 
 /// Data that landed in an empty receive FIFO is read byte for byte.
@@ -66,16 +79,18 @@ pub fn registers_keep_bits()
 {}
 
 /// A port reset, a SETUP that is sent, data that comes in, each other answer to both, and a detach, word by word as a driver
-/// writes and reads them; packets in both transmit FIFOs; a full receive FIFO.
+/// writes and reads them; packets in both transmit FIFOs; full FIFOs; the device's registers.
 pub fn worked_answers()
     ensures reset { PortReset }
     ensures setup { SetupSent }
+    ensures others { OtherPackets }
     ensures answers { SetupAnswered }
     ensures comes { DescriptorComes }
     ensures in_answers { InAnswered }
     ensures detached { Detached }
     ensures packets { PacketsStand }
     ensures full { FullFifo }
+    ensures device { DeviceRegisters }
 {}
 
 /// The opened state of an `FS4`: its plan of 144, 128 and 48 words, masks and PPWR. The plan of a larger controller.
