@@ -10,7 +10,9 @@ use Rattle.device_table.specs.Write.{setup_lies}
 use Rattle.device_relation.specs.declared.software.Ready.{Ready}
 use Rattle.device_relation.specs.declared.software.Ready.TheVariants as ready
 use Rattle.device_relation.specs.Software.{Software, Joint}
-use Rattle.device_relation.specs.Relation.{Stands, InPart, OutPart, Pair, off_off, wait_wait, loaded_loaded, loaded_sent, last_last, last_armed, armed_armed, last_came, armed_came, stall_stall, loaded_off, last_off, armed_off, stall_off, IsPacket, bytes_of_side, loaded_bytes, is_loaded, is_armed, is_stalled, is_idle, is_came, was_heard, was_packet, is_seen, toggle_of, some_lie, came_entries, setups_entries, tx_holding}
+use Rattle.device_relation.specs.Relation.{Stands, InPart, OutPart, Pair, off_off, wait_wait, loaded_loaded, loaded_sent, last_last, last_armed, armed_armed, last_came, armed_came}
+use Rattle.device_relation.specs.Relation.{stall_stall, loaded_off, last_off, armed_off, stall_off, IsPacket, bytes_of_side, loaded_bytes, is_loaded, is_armed, is_stalled, is_idle}
+use Rattle.device_relation.specs.Relation.{is_came, was_heard, was_packet, is_seen, toggle_of, some_lie, came_entries, setups_entries, tx_holding}
 use Rattle.device_relation.specs.Port.{Port, StandsFor, may_start, started, armed, stalled, addressed}
 use Rattle.device_relation.specs.Run.{unstalled, out_armed, run_start, run_arm, run_stall, run_address}
 use Rattle.device_relation.proofs.SetupEvents.{never, no_packet}

@@ -1,5 +1,5 @@
 -- All endpoints but endpoint 0 are closed.
-use Rattle.std.proofs.Common.{◌≡◌, ℕ, zero, suc, [], ◌∷◌, refl, ap, sym, ◌∙◌, subst}
+use Rattle.std.proofs.Common.{ℕ, zero, suc, [], refl, sym, subst}
 use Rattle.device_machine.specs.Bus.{Bus}
 use Rattle.dwc2_regs.specs.declared.access.TheConstants.{FS4}
 use Rattle.device_table.specs.State.{Table, InEnd, OutEnd}
@@ -8,19 +8,13 @@ use Rattle.device_relation.specs.Relation.{Stands, PipePart}
 use Rattle.device_relation.specs.Port.{Port, StandsFor, without_endpoints}
 use Rattle.device_relation.specs.Run.{others_closed, run_close}
 use Rattle.device_relation.proofs.SetupEvents.{never}
-use Rattle.device_relation.proofs.Resets.{Three, three}
-
-abbrev with_ends : Table → (a b c : InEnd) → (d e f : OutEnd) → Table
-with_ends t a b c d e f = record t { ins = a ∷ b ∷ c ∷ []; outs = d ∷ e ∷ f ∷ [] }
+use Rattle.device_relation.proofs.Resets.{Three, three, with_ends, whole}
 
 closed_pipe : (t : Table) (a b c : InEnd) (d e f : OutEnd) (n : ℕ) → let new = others_closed FS4 (with_ends t a b c d e f) in PipePart new.ins new.outs [] n
 closed_pipe t a b c d e f zero = record { takes = λ n. refl; out_naks = never _ refl; out_stall = refl; sends = refl; in_naks = never _ refl; in_stall = refl }
 closed_pipe t a b c d e f (suc zero) = record { takes = λ n. refl; out_naks = never _ refl; out_stall = refl; sends = refl; in_naks = never _ refl; in_stall = refl }
 closed_pipe t a b c d e f (suc (suc zero)) = record { takes = λ n. refl; out_naks = never _ refl; out_stall = refl; sends = refl; in_naks = never _ refl; in_stall = refl }
 closed_pipe t a b c d e f (suc (suc (suc n))) = record { takes = λ n. refl; out_naks = never _ refl; out_stall = refl; sends = refl; in_naks = never _ refl; in_stall = refl }
-
-pub whole : (t : Table) (ins : Three t.ins) (outs : Three t.outs) → t ≡ with_ends t ins.a ins.b ins.c outs.a outs.b outs.c
-whole t ins outs = ap (λ xs. record t { ins = xs }) ins.is ∙ ap (λ xs. record t { ins = ins.a ∷ ins.b ∷ ins.c ∷ []; outs = xs }) outs.is
 
 close_stands : (t : Table) (s : Software) (m : Bus) (a b c : InEnd) (d e f : OutEnd) → Stands FS4 t s m
     → Stands FS4 (others_closed FS4 (with_ends t a b c d e f)) (record s { open_ones = [] }) (record m { endpoints = [] })

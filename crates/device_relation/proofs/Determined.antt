@@ -10,7 +10,9 @@ use Rattle.device_table.specs.State.{Table}
 use Rattle.device_relation.specs.declared.software.Ready.{Ready}
 use Rattle.device_relation.specs.declared.software.Ready.TheVariants as ready
 use Rattle.device_relation.specs.Software.{Software}
-use Rattle.device_relation.specs.Relation.{abstract, Stands, Pair, off_off, wait_wait, loaded_loaded, loaded_sent, last_last, last_armed, armed_armed, last_came, armed_came, stall_stall, loaded_off, last_off, armed_off, stall_off, side_of, side_ready, side_with, packet_in, setups_in, packet_of, packets_of, loaded_bytes, is_loaded, is_armed, is_stalled, some_lie, is_taken, is_seen, toggle_of, loaded_if, last_if, armed_if, stalled_if}
+use Rattle.device_relation.specs.Relation.{abstract, Stands, Pair, off_off, wait_wait, loaded_loaded, loaded_sent, last_last, last_armed, armed_armed, last_came, armed_came}
+use Rattle.device_relation.specs.Relation.{stall_stall, loaded_off, last_off, armed_off, stall_off, side_of, side_ready, side_with, packet_in, setups_in, packet_of, packets_of}
+use Rattle.device_relation.specs.Relation.{loaded_bytes, is_loaded, is_armed, is_stalled, some_lie, is_taken, is_seen, toggle_of, loaded_if, last_if, armed_if, stalled_if}
 use Rattle.device_relation.proofs.Entries.{came_of, setups_in-is, packet_in-is}
 
 packet_of-packets_of : (bytes : List ℕ) → packet_of (packets_of bytes) ≡ bytes

@@ -21,7 +21,9 @@ use Rattle.device_table.specs.Bus.{InOutcome, unheard_in, naks_in, stalls_in, se
 use Rattle.device_relation.specs.declared.software.Ready.{Ready}
 use Rattle.device_relation.specs.declared.software.Heard.{Heard}
 use Rattle.device_relation.specs.Software.{Software}
-use Rattle.device_relation.specs.Relation.{Stands, PipePart, Pair, off_off, wait_wait, loaded_loaded, loaded_sent, last_last, last_armed, armed_armed, last_came, armed_came, stall_stall, loaded_off, last_off, armed_off, stall_off, IsPacket, bytes_of_side, loaded_bytes, is_loaded, is_armed, is_stalled, is_idle, was_heard, is_seen, is_taken, toggle_of, some_lie, came_entries, setups_entries, tx_holding, one_packet, in_at, is_used}
+use Rattle.device_relation.specs.Relation.{Stands, PipePart, Pair, off_off, wait_wait, loaded_loaded, loaded_sent, last_last, last_armed, armed_armed, last_came, armed_came}
+use Rattle.device_relation.specs.Relation.{stall_stall, loaded_off, last_off, armed_off, stall_off, IsPacket, bytes_of_side, loaded_bytes, is_loaded, is_armed, is_stalled, is_idle}
+use Rattle.device_relation.specs.Relation.{was_heard, is_seen, is_taken, toggle_of, some_lie, came_entries, setups_entries, tx_holding, one_packet, in_at, is_used}
 use Rattle.device_relation.proofs.SetupEvents.{hears_is, never, no_packet, not_zero}
 use Rattle.device_relation.proofs.OutEvents.{setup_lies_is, not_not, or_true, and_false}
 

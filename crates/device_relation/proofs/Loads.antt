@@ -16,7 +16,9 @@ use Rattle.device_relation.specs.declared.software.Ready.TheVariants as ready
 use Rattle.device_relation.specs.declared.software.Heard.{Heard}
 use Rattle.device_relation.specs.declared.software.Heard.TheVariants as heard
 use Rattle.device_relation.specs.Software.{Software, Joint}
-use Rattle.device_relation.specs.Relation.{Stands, OutPart, Pair, off_off, wait_wait, loaded_loaded, loaded_sent, last_last, last_armed, armed_armed, last_came, armed_came, stall_stall, loaded_off, last_off, armed_off, stall_off, IsPacket, was_packet, is_seen, is_taken, some_lie, setups_entries, tx_holding, one_packet}
+use Rattle.device_relation.specs.Relation.{Stands, OutPart, Pair, off_off, wait_wait, loaded_loaded, loaded_sent, last_last, last_armed, armed_armed, last_came, armed_came}
+use Rattle.device_relation.specs.Relation.{stall_stall, loaded_off, last_off, armed_off, stall_off, IsPacket, was_packet, is_seen, is_taken, some_lie, setups_entries, tx_holding}
+use Rattle.device_relation.specs.Relation.{one_packet}
 use Rattle.device_relation.specs.Port.{Port, StandsFor}
 use Rattle.device_relation.specs.Run.{snak_epena, cnak, xfrc, words_written, packet_loaded, out_armed, loaded_from, waiting_loaded}
 use Rattle.device_relation.proofs.SetupEvents.{never}

@@ -23,7 +23,9 @@ use Rattle.device_table.specs.Bus as table
 use Rattle.device_table.specs.Bus.{OutOutcome, unheard, naks, stalls, drops, lands, out_entries, is_repeated_of, has_room, hears_out, out_outcome}
 use Rattle.device_relation.specs.declared.software.Ready.{Ready}
 use Rattle.device_relation.specs.Software.{Software}
-use Rattle.device_relation.specs.Relation.{Stands, PipePart, Pair, off_off, wait_wait, loaded_loaded, loaded_sent, last_last, last_armed, armed_armed, last_came, armed_came, stall_stall, loaded_off, last_off, armed_off, stall_off, IsPacket, is_armed, is_stalled, is_idle, was_heard, was_packet, some_lie, came_entries, setups_entries, landed_of, out_at, is_used}
+use Rattle.device_relation.specs.Relation.{Stands, PipePart, Pair, off_off, wait_wait, loaded_loaded, loaded_sent, last_last, last_armed, armed_armed, last_came, armed_came}
+use Rattle.device_relation.specs.Relation.{stall_stall, loaded_off, last_off, armed_off, stall_off, IsPacket, is_armed, is_stalled, is_idle, was_heard, was_packet, some_lie}
+use Rattle.device_relation.specs.Relation.{came_entries, setups_entries, landed_of, out_at, is_used}
 use Rattle.device_relation.proofs.Entries.{setup_in-is}
 use Rattle.device_relation.proofs.SetupEvents.{hears_is, never, not_zero}
 

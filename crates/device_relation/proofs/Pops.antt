@@ -102,7 +102,7 @@ front_by none n kind bytes number t s =
     if none then record { table = popped_by kind t number; software = s }
     else entries_taken n (taken_by kind (record { table = popped_by kind t number; software = s }) bytes)
 
-some_status : (n : ℕ) → (status_word 0 n 2 2 == 0) ≡ false
+pub some_status : (n : ℕ) → (status_word 0 n 2 2 == 0) ≡ false
 some_status n = grind (arith, nat_tests)
 
 count_is : (n : ℕ) → n ≤ 64 → byte_count (status_word 0 n 2 2) ≡ n

@@ -24,7 +24,7 @@ use Rattle.device_relation.proofs.SetupEvents.{never, no_packet}
 use Rattle.device_relation.proofs.OutEvents.{or_true, and_false}
 use Rattle.device_relation.proofs.Entries.{kind_of-out}
 use Rattle.device_relation.proofs.Taken.{epdis_ends}
-use Rattle.device_relation.proofs.Pops.{rx_as}
+use Rattle.device_relation.proofs.Pops.{rx_as, some_status}
 
 -- All entries popped: what is left of the receive FIFO, of the count of SETUPs and of the bits of DOEPINT0.
 
@@ -68,9 +68,6 @@ front_by none k kind number t =
     else if kind == 3 then with_out t number (record (out_end t number) { xfrc = true })
     else t in
     if none then popped else popped_all k popped
-
-some_status : (n : ℕ) → (status_word 0 n 2 2 == 0) ≡ false
-some_status n = grind (arith, nat_tests)
 
 came_emptied : (bytes : List ℕ) (us : List (List ℕ)) (t : Table) → IsPacket bytes → length us ≤ 3 → t.core.unserved ≡ length us → Emptied t 8 (out_entries 0 D1 bytes ++ setups_entries us)
 unfolding emptied_as popped_all
@@ -121,8 +118,12 @@ served : (t : Table) → reset_served FS4 t ≡ done (popped_all 8 (closed t))
 unfolding closed done
 served t = refl
 
-abbrev with_ends : Table → (a b c : InEnd) → (d e f : OutEnd) → Table
+-- with these endpoints
+abbrev pub with_ends : Table → (a b c : InEnd) → (d e f : OutEnd) → Table
 with_ends t a b c d e f = record t { ins = a ∷ b ∷ c ∷ []; outs = d ∷ e ∷ f ∷ [] }
+
+pub whole : (t : Table) (ins : Three t.ins) (outs : Three t.outs) → t ≡ with_ends t ins.a ins.b ins.c outs.a outs.b outs.c
+whole t ins outs = ap (λ xs. record t { ins = xs }) ins.is ∙ ap (λ xs. record t { ins = ins.a ∷ ins.b ∷ ins.c ∷ []; outs = xs }) outs.is
 
 closed_pipes : (t : Table) (a b c : InEnd) (d e f : OutEnd) (u : ℕ) (x s : Bool) (n : ℕ)
     → let new = done (emptied_as (closed (with_ends t a b c d e f)) u x s) in PipePart new.ins new.outs [] n
@@ -173,12 +174,11 @@ reset_for j p f resets =
     let ins : Three t.ins = three t.ins st.rest.in_ends in
     let outs : Three t.outs = three t.outs st.rest.out_ends in
     let t1 : Table = with_ends t ins.a ins.b ins.c outs.a outs.b outs.c in
-    let whole : t ≡ t1 = ap (λ xs. record t { ins = xs }) ins.is ∙ ap (λ xs. record t { ins = ins.a ∷ ins.b ∷ ins.c ∷ []; outs = xs }) outs.is in
     let e : Emptied (closed t1) 8 (came_entries p.bus.side ++ setups_entries p.bus.unserved) =
     all_emptied p.bus.side p.bus.unserved (closed t1) st.side.packet st.rx.few st.rx.counts in
     let lies : closed t1 ≡ rx_as (closed t1) [] (came_entries p.bus.side ++ setups_entries p.bus.unserved) = ap (λ (rx : Rx). record (closed t1) { rx = rx }) st.rx.lie in
     let is : reset_served FS4 t ≡ done (emptied_as (closed t1) e.unserved e.xfrc e.stup) =
-    ap (reset_served FS4) whole ∙ ap (λ x. done (popped_all 8 x)) lies ∙ ap done e.is in
+    ap (reset_served FS4) (whole t ins outs) ∙ ap (λ x. done (popped_all 8 x)) lies ∙ ap done e.is in
     record {
       stands = subst (λ x. Stands FS4 x (unused true) (unconfigured true)) (sym is) (reset_stands t j.software p.bus ins.a ins.b ins.c outs.a outs.b outs.c e.unserved e.xfrc e.stup st resets e.none);
       heard = refl;

@@ -11,7 +11,8 @@ use Rattle.device_table.specs.State.{Table, rx_depth}
 use Rattle.device_relation.specs.declared.software.Ready.{Ready}
 use Rattle.device_relation.specs.declared.software.Ready.TheVariants as ready
 use Rattle.device_relation.specs.Software.{Software, Joint}
-use Rattle.device_relation.specs.Relation.{Stands, Pair, off_off, wait_wait, loaded_loaded, last_last, last_armed, armed_armed, last_came, armed_came, stall_stall, loaded_off, last_off, armed_off, stall_off, came_entries, setups_entries, was_heard, IsAddress}
+use Rattle.device_relation.specs.Relation.{Stands, Pair, off_off, wait_wait, loaded_loaded, last_last, last_armed, armed_armed, last_came, armed_came, stall_stall, loaded_off}
+use Rattle.device_relation.specs.Relation.{last_off, armed_off, stall_off, came_entries, setups_entries, was_heard, IsAddress}
 use Rattle.device_relation.specs.Port.{Port, StandsFor, with_request, with_stage, with_address, with_stages}
 use Rattle.device_relation.specs.Run.{entries_taken, waiting_loaded, rest_served, sent_served, sent_noted, last_served, served_by, cleared_ack}
 use Rattle.device_relation.proofs.SetupEvents.{never}

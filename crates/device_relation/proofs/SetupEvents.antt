@@ -20,7 +20,9 @@ use Rattle.device_table.specs.Bus as table
 use Rattle.device_table.specs.Bus.{out_entries, setup_entries}
 use Rattle.device_relation.specs.declared.software.Ready.{Ready}
 use Rattle.device_relation.specs.Software.{Software}
-use Rattle.device_relation.specs.Relation.{Stands, CorePart, Pair, off_off, wait_wait, loaded_loaded, loaded_sent, last_last, last_armed, armed_armed, last_came, armed_came, stall_stall, loaded_off, last_off, armed_off, stall_off, IsPacket, IsSetup, AreSetups, bytes_of_side, loaded_bytes, is_loaded, is_armed, is_stalled, is_idle, was_heard, is_seen, is_taken, toggle_of, some_lie, came_entries, setups_entries, landed_of, tx_holding}
+use Rattle.device_relation.specs.Relation.{Stands, CorePart, Pair, off_off, wait_wait, loaded_loaded, loaded_sent, last_last, last_armed, armed_armed, last_came, armed_came}
+use Rattle.device_relation.specs.Relation.{stall_stall, loaded_off, last_off, armed_off, stall_off, IsPacket, IsSetup, AreSetups, bytes_of_side, loaded_bytes, is_loaded, is_armed}
+use Rattle.device_relation.specs.Relation.{is_stalled, is_idle, was_heard, is_seen, is_taken, toggle_of, some_lie, came_entries, setups_entries, landed_of, tx_holding}
 
 pub not_zero : (n : ℕ) → (suc n == 0) ≡ false
 not_zero n = grind (arith, nat_tests)

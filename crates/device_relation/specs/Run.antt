@@ -6,7 +6,8 @@ use Rattle.usb_descriptor.specs.declared.endpoint.EpKind.{EpKind}
 use Rattle.usb_descriptor.specs.declared.endpoint.EpKind.TheVariants.{Bulk, Interrupt}
 use Rattle.device_machine.specs.declared.control.Stage.TheVariants.{Sent, Came}
 use Rattle.dwc2_regs.specs.declared.bits.Field.{Field}
-use Rattle.dwc2_regs.specs.declared.TheConstants.{GRSTCTL_TXFFLSH, GRSTCTL_TXFNUM, DIEPCTL_STALL, DIEPCTL_CNAK, DIEPCTL_SNAK, DIEPCTL_EPDIS, DIEPCTL_EPENA, DIEPINT_XFRC, DIEPINT_EPDISD, DOEPINT_XFRC, DOEPINT_EPDISD, DOEPINT_STUP, GINTSTS_USBRST, GINTSTS_ENUMDNE, GRXSTSP_BYTES}
+use Rattle.dwc2_regs.specs.declared.TheConstants.{GRSTCTL_TXFFLSH, GRSTCTL_TXFNUM, DIEPCTL_STALL, DIEPCTL_CNAK, DIEPCTL_SNAK, DIEPCTL_EPDIS, DIEPCTL_EPENA, DIEPINT_XFRC}
+use Rattle.dwc2_regs.specs.declared.TheConstants.{DIEPINT_EPDISD, DOEPINT_XFRC, DOEPINT_EPDISD, DOEPINT_STUP, GINTSTS_USBRST, GINTSTS_ENUMDNE, GRXSTSP_BYTES}
 use Rattle.dwc2_regs.specs.Field.{field_of}
 use Rattle.dwc2_regs.specs.Register.{grstctl, gintsts, grxstsp, dcfg, diepctl, diepint, dieptsiz, doepctl, doepint, fifo}
 use Rattle.dwc2_fifo.specs.Words.{word_count, words_of, bytes_in}

@@ -4,7 +4,8 @@ use Rattle.usb_packet.specs.declared.bus.Toggle.{Toggle}
 use Rattle.usb_packet.specs.declared.bus.BusEvent.TheVariants as event
 use Rattle.dwc2_regs.specs.declared.TheConstants.{GRXSTSP_NUMBER, GRXSTSP_BYTES, GRXSTSP_PID, GRXSTSP_STATUS}
 use Rattle.dwc2_regs.specs.Field.{field_of}
-use Rattle.dwc2_regs.specs.Register.{Register, gintmsk, grxstsp, grxfsiz, dieptxf0, hptxfsiz, hcfg, haintmsk, dcfg, dctl, diepmsk, doepmsk, daintmsk, diepempmsk, dieptxf, hcchar, hcintmsk, hctsiz, diepctl, diepint, dieptsiz, dtxfsts, doepctl, doepint, doeptsiz, fifo}
+use Rattle.dwc2_regs.specs.Register.{Register, gintmsk, grxstsp, grxfsiz, dieptxf0, hptxfsiz, hcfg, haintmsk, dcfg, dctl, diepmsk, doepmsk, daintmsk, diepempmsk, dieptxf, hcchar}
+use Rattle.dwc2_regs.specs.Register.{hcintmsk, hctsiz, diepctl, diepint, dieptsiz, dtxfsts, doepctl, doepint, doeptsiz, fifo}
 use Rattle.dwc2_regs.specs.declared.access.Profile.{Profile}
 use Rattle.device_table.specs.State.{Table, first, opened, in_end, out_end}
 use Rattle.dwc2_fifo.specs.Words.{words_of}

@@ -2,7 +2,9 @@
 use Rattle.std.specs.Prelude.{ℕ, zero, suc, ◌+◌, ◌-◌, ◌*◌, ◌==◌, ◌&&◌, ◌||◌, nat_le, Bool, true, false, if◌then◌else◌, List, [], ◌∷◌, Option, Some, None, slice_index, slice_index_or}
 use Rattle.dwc2_regs.specs.declared.TheConstants.{GINTSTS_RXFLVL, GINTSTS_USBRST, GINTSTS_ENUMDNE, GINTSTS_IEPINT, GINTSTS_OEPINT, DIEPINT_XFRC, DIEPINT_EPDISD, DIEPINT_TXFE, DOEPINT_XFRC, DOEPINT_EPDISD, DOEPINT_STUP, DAINT_IN, DAINT_OUT}
 use Rattle.dwc2_regs.specs.Field.{with_field}
-use Rattle.dwc2_regs.specs.Register.{Register, register_at, grstctl, gintsts, gintmsk, grxstsr, grxstsp, grxfsiz, dieptxf0, hptxfsiz, hcfg, haint, haintmsk, hprt, dcfg, dctl, dsts, diepmsk, doepmsk, daint, daintmsk, diepempmsk, dieptxf, hcchar, hcint, hcintmsk, hctsiz, diepctl, diepint, dieptsiz, dtxfsts, doepctl, doepint, doeptsiz, fifo}
+use Rattle.dwc2_regs.specs.Register.{Register, register_at, grstctl, gintsts, gintmsk, grxstsr, grxstsp, grxfsiz, dieptxf0, hptxfsiz, hcfg, haint, haintmsk, hprt, dcfg, dctl, dsts}
+use Rattle.dwc2_regs.specs.Register.{diepmsk, doepmsk, daint, daintmsk, diepempmsk, dieptxf, hcchar, hcint, hcintmsk, hctsiz, diepctl, diepint, dieptsiz, dtxfsts, doepctl, doepint}
+use Rattle.dwc2_regs.specs.Register.{doeptsiz, fifo}
 use Rattle.dwc2_fifo.specs.Words.{word_count}
 use Rattle.dwc2_fifo.specs.Rx.{Entry, first_status, popped, first_word, word_taken}
 use Rattle.dwc2_fifo.specs.Tx.{space_of}

@@ -3,7 +3,9 @@ use Rattle.std.specs.Prelude.{ℕ, zero, suc, ◌+◌, ◌*◌, ◌^◌, ◌==�
 use Rattle.usb_packet.specs.declared.bus.Toggle.{Toggle}
 use Rattle.usb_packet.specs.declared.bus.Toggle.TheVariants.{D0, D1}
 use Rattle.dwc2_regs.specs.declared.bits.Field.{Field}
-use Rattle.dwc2_regs.specs.declared.TheConstants.{DIEPCTL0_SIZE, DIEPCTL_SIZE, DIEPCTL_NAKSTS, DIEPCTL_STALL, DIEPCTL_CNAK, DIEPCTL_SNAK, DIEPCTL_SD0PID, DIEPCTL_EPDIS, DIEPCTL_EPENA, DIEPTSIZ0_SIZE, DIEPTSIZ0_COUNT, DIEPTSIZ_SIZE, DIEPTSIZ_COUNT, GRXSTSP_STATUS, GRXSTSP_NUMBER, OUT_DATA, OUT_DONE, SETUP_DONE, SETUP_DATA}
+use Rattle.dwc2_regs.specs.declared.TheConstants.{DIEPCTL0_SIZE, DIEPCTL_SIZE, DIEPCTL_NAKSTS, DIEPCTL_STALL, DIEPCTL_CNAK, DIEPCTL_SNAK, DIEPCTL_SD0PID, DIEPCTL_EPDIS}
+use Rattle.dwc2_regs.specs.declared.TheConstants.{DIEPCTL_EPENA, DIEPTSIZ0_SIZE, DIEPTSIZ0_COUNT, DIEPTSIZ_SIZE, DIEPTSIZ_COUNT, GRXSTSP_STATUS, GRXSTSP_NUMBER, OUT_DATA, OUT_DONE}
+use Rattle.dwc2_regs.specs.declared.TheConstants.{SETUP_DONE, SETUP_DATA}
 use Rattle.dwc2_regs.specs.Field.{field_of, with_field}
 use Rattle.device_table.specs.State.{Control}
 

@@ -1,9 +1,13 @@
 -- What a write of each register changes.
 use Rattle.std.specs.Prelude.{ℕ, zero, suc, ◌-◌, ◌==◌, ◌&&◌, ◌||◌, not, min, nat_lt, Bool, true, false, if◌then◌else◌, List, [], ◌∷◌, map, Option, Some, None, slice_set, is_some}
 use Rattle.usb_packet.specs.declared.bus.Toggle.TheVariants.{D0}
-use Rattle.dwc2_regs.specs.declared.TheConstants.{GRSTCTL_RXFFLSH, GRSTCTL_TXFFLSH, GRSTCTL_TXFNUM, GINTSTS_USBRST, GINTSTS_ENUMDNE, HPRT_PCSTS, HPRT_PCDET, HPRT_PENA, HPRT_PENCHNG, HCCHAR_CHDIS, HCCHAR_CHENA, DIEPCTL_STALL, DIEPCTL_CNAK, DIEPCTL_SNAK, DIEPCTL_SD0PID, DIEPCTL_EPDIS, DIEPCTL_EPENA, DIEPINT_XFRC, DIEPINT_EPDISD, DOEPINT_XFRC, DOEPINT_EPDISD, DOEPINT_STUP}
+use Rattle.dwc2_regs.specs.declared.TheConstants.{GRSTCTL_RXFFLSH, GRSTCTL_TXFFLSH, GRSTCTL_TXFNUM, GINTSTS_USBRST, GINTSTS_ENUMDNE, HPRT_PCSTS, HPRT_PCDET, HPRT_PENA, HPRT_PENCHNG}
+use Rattle.dwc2_regs.specs.declared.TheConstants.{HCCHAR_CHDIS, HCCHAR_CHENA, DIEPCTL_STALL, DIEPCTL_CNAK, DIEPCTL_SNAK, DIEPCTL_SD0PID, DIEPCTL_EPDIS, DIEPCTL_EPENA, DIEPINT_XFRC}
+use Rattle.dwc2_regs.specs.declared.TheConstants.{DIEPINT_EPDISD, DOEPINT_XFRC, DOEPINT_EPDISD, DOEPINT_STUP}
 use Rattle.dwc2_regs.specs.Field.{field_of}
-use Rattle.dwc2_regs.specs.Register.{Register, register_at, grstctl, gintsts, gintmsk, grxstsr, grxstsp, grxfsiz, dieptxf0, hptxfsiz, hcfg, haint, haintmsk, hprt, dcfg, dctl, dsts, diepmsk, doepmsk, daint, daintmsk, diepempmsk, dieptxf, hcchar, hcint, hcintmsk, hctsiz, diepctl, diepint, dieptsiz, dtxfsts, doepctl, doepint, doeptsiz, fifo}
+use Rattle.dwc2_regs.specs.Register.{Register, register_at, grstctl, gintsts, gintmsk, grxstsr, grxstsp, grxfsiz, dieptxf0, hptxfsiz, hcfg, haint, haintmsk, hprt, dcfg, dctl, dsts}
+use Rattle.dwc2_regs.specs.Register.{diepmsk, doepmsk, daint, daintmsk, diepempmsk, dieptxf, hcchar, hcint, hcintmsk, hctsiz, diepctl, diepint, dieptsiz, dtxfsts, doepctl, doepint}
+use Rattle.dwc2_regs.specs.Register.{doeptsiz, fifo}
 use Rattle.dwc2_fifo.specs.Words.{word_count}
 use Rattle.dwc2_fifo.specs.Rx.{Entry, empty_of as rx_empty}
 use Rattle.dwc2_fifo.specs.Tx.{space_of, begun_in, with_word, empty_of as tx_empty}

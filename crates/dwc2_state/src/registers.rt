@@ -37,6 +37,7 @@ impl Model for CoreState {
 }
 
 impl CoreState {
+    /// The device at its start: asleep, with no reset and no SETUP.
     pub fn new() -> CoreState
         ensures { result ≡ (first FS4).core }
     {
@@ -91,6 +92,7 @@ impl Model for KeptRegisters {
 }
 
 impl KeptRegisters {
+    /// All registers are 0 at the start.
     pub fn new() -> KeptRegisters
         ensures { result ≡ (first FS4).kept }
     {
@@ -129,6 +131,7 @@ impl Model for ChannelRegisters {
 }
 
 impl ChannelRegisters {
+    /// All three registers are 0 at the start.
     pub fn new() -> ChannelRegisters
         ensures { result ≡ no_channel }
     {
@@ -183,6 +186,7 @@ impl Model for HostRegisters {
 }
 
 impl HostRegisters {
+    /// All registers are 0 at the start, those of the channels too.
     pub fn new() -> HostRegisters
         ensures { result ≡ (first FS4).host }
     {
