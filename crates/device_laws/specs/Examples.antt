@@ -188,6 +188,10 @@ pub record Reads : Type 0 where
       (reset ++ asked get_device
       ++ (in_token 0 false, data1 device) ∷ (Irq, done) ∷ (in_token 0 false, data1 device) ∷ (in_token 0 true, data1 device)
       ∷ (in_token 0 true, nak) ∷ [])
+  -- a status packet waits for the last packet of data
+  pub early : IsAnswered powered
+      (reset ++ asked (get_config 255) ++ (out_packet 0 D1 [], nak) ∷ (in_token 0 true, data1 full_config) ∷ (out_packet 0 D1 [], nak) ∷ served
+      ++ (in_token 0 true, data0 []) ∷ (out_packet 0 D1 [], ack) ∷ [])
   -- a status packet with DATA0 isn't new: it is acknowledged and dropped
   pub wrong_toggle : IsAnswered plain
       (reset ++ asked get_device ++ (in_token 0 true, data1 device) ∷ (out_packet 0 D0 [], ack) ∷ (out_packet 0 D0 [], ack) ∷ (out_packet 0 D1 [], ack)
@@ -234,6 +238,11 @@ pub record Setups : Type 0 where
   -- a packet of the host that was taken belongs to its own transfer
   pub untaken : IsAnswered plain
       (reset ++ read get_device device ++ (out_packet 0 D1 [], ack) ∷ (setup 0 get_device, ack) ∷ (Irq, done) ∷ (out_packet 0 D1 [], nak) ∷ [])
+  -- and what endpoint 0 had ready, its stage and its stall
+  pub emptied : IsAnswered powered
+      (reset ++ asked get_device ++ (in_token 0 false, data1 device) ∷ reset ++ (in_token 0 true, nak) ∷ refused (get_string 2) ++ reset
+      ++ (in_token 0 true, nak) ∷ asked (get_config 255) ++ (in_token 0 true, data1 full_config) ∷ (Irq, done) ∷ reset
+      ++ (Task, done) ∷ (Irq, done) ∷ (in_token 0 true, nak) ∷ [])
   -- one that is damaged or has another address isn't
   pub unheard : IsAnswered plain (reset ++ (Bus (event.Setup 0 get_device false), none) ∷ (setup 1 get_device, none) ∷ [])
   -- nothing is answered before the first reset was served, whatever runs
@@ -317,4 +326,5 @@ pub record Sessions : Type 0 where
   pub endpoint : IsAnswered powered
       (reset ++ (other_in 1, none) ∷ (other_out 15 (numbers_from 0 16), none) ∷ passed (set_configuration 3) ++ (other_in 1, nak) ∷ (other_in 2, none)
       ∷ (other_in 15, none) ∷ (other_out 15 (numbers_from 0 16), nak) ∷ (other_out 15 (numbers_from 0 17), none) ∷ (other_out 1 [], none)
-      ∷ (Bus (event.Out 0 15 D0 [] false), none) ∷ passed (set_configuration 0) ++ (other_in 1, none) ∷ [])
+      ∷ (Bus (event.Out 0 15 D0 [] false), none) ∷ passed (set_configuration 0) ++ (other_in 1, none) ∷ passed (set_configuration 3) ++ reset
+      ++ (other_in 1, none) ∷ [])
