@@ -57,6 +57,7 @@ pub fn repeated_packet()
 
 /// No byte that an OUT pipe acknowledged is lost by a halt or a clear, or by anything else but a drop or a close: what lay at
 /// the device and what was acknowledged with the pipe's toggle, in order, is what was read and what lies at the device then.
+/// A halt of an IN pipe leaves its queue, its transfer and what lies ready.
 pub fn nothing_lost()
     ensures run { (pipe : OutPipe) (events : List OutEvent) → All DropsNothing events →
         pipe.held ++ landed pipe.phase ++ took pipe events ≡
@@ -66,6 +67,9 @@ pub fn nothing_lost()
     ensures held_at_halt { (pipe : OutPipe) → (out.halted_ pipe).held ≡ pipe.held }
     ensures landed_at_halt { (pipe : OutPipe) → (out.halted_ pipe).phase ≡ pipe.phase }
     ensures toggle_at_halt { (pipe : OutPipe) → (out.halted_ pipe).toggle ≡ pipe.toggle }
+    ensures in_phase_at_halt { (pipe : InPipe) → (inward.halted_ pipe).phase ≡ pipe.phase }
+    ensures in_loaded_at_halt { (pipe : InPipe) → (inward.halted_ pipe).loaded ≡ pipe.loaded }
+    ensures in_queue_at_halt { (pipe : InPipe) → (inward.halted_ pipe).queue ≡ pipe.queue }
 {}
 
 /// A clear sets DATA0 and ends the halt (9.4.5). That of an IN pipe takes the bytes of the transfer that runs off the queue,
