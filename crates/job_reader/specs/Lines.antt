@@ -7,7 +7,7 @@ use Rattle.usb_text.specs.Plain.{is_plain}
 use Rattle.device_text.specs.Job.{closed}
 use Rattle.job_reader.specs.declared.lines.Lines.{Lines}
 use Rattle.job_reader.specs.declared.lines.Next as declared
-use Rattle.job_reader.specs.declared.lines.Next.TheVariants.{Line, Nothing, TooLong, ReadFault}
+use Rattle.job_reader.specs.declared.lines.Next.TheVariants.{Line, Nothing, LineTooLong, ReadFault}
 
 -- how many bytes a line of n bytes has with its newline, where that is there
 abbrev pub size_of : ℕ → List ℕ → ℕ
@@ -37,7 +37,7 @@ IsCut lines = (lines.ended ≡ false) × (is_plain lines.reader ≡ true) × (le
 abbrev pub IsNext : declared.Next → Lines → ℕ → ℕ → Type 0
 IsNext (Line n) lines faults faults' = IsLineAt n lines
 IsNext Nothing lines faults faults' = (lines.reader ≡ []) × (lines.ended ≡ true)
-IsNext TooLong lines faults faults' = (is_plain lines.reader ≡ true) × (most_line < length lines.reader)
+IsNext LineTooLong lines faults faults' = (is_plain lines.reader ≡ true) × (most_line < length lines.reader)
 IsNext ReadFault lines faults faults' = Rose faults faults' × IsCut lines
 
 -- what stands for the newline that the last line of a source lacks. `before` is all that was read so far

@@ -61,7 +61,7 @@ fn next_head<S: Source>(lines: &mut Lines, draft: &Draft, src: &mut S) -> Result
             Err(fault) => Err(NoHead::Refused(fault.rule)),
         },
         Next::Nothing => Err(NoHead::Short),
-        Next::TooLong => Err(NoHead::Refused(1)),
+        Next::LineTooLong => Err(NoHead::Refused(1)),
         Next::ReadFault => Err(NoHead::ReadFault),
     }
 }

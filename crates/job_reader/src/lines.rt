@@ -13,8 +13,8 @@ pub enum Next {
     Line(usize),
     /// Nothing, and the source ended.
     Nothing,
-    /// More bytes than a line has, with no newline.
-    TooLong,
+    /// More bytes than a line may have, with no newline among them: rule 1.
+    LineTooLong,
     /// The source failed.
     ReadFault,
 }
@@ -61,7 +61,7 @@ impl Lines {
             }
             let len = self.reader.ahead().len();
             if len > MOST_LINE {
-                return Next::TooLong;
+                return Next::LineTooLong;
             }
             if self.ended {
                 return if len == 0 {

@@ -17,17 +17,17 @@ mod top;
 mod turn;
 mod writer;
 
-use program::{no_memory, run_words};
+use program::{no_memory, run_process};
 use status::Status;
 use std::io::ErrorKind;
 use std::process::ExitCode;
 use std::{env, io};
 use usb_edge::{StderrSink, StdinSource, StdoutSink};
 
-/// The words after the program's name.
+/// The process's words, of which the first is the program's name.
 fn words(rt: &HostRuntime) -> io::Result<Vec<String>> {
     let mut words = Vec::new(rt.alloc());
-    for word in env::args(rt)?.skip(1) {
+    for word in env::args(rt)? {
         words.push(word)?;
     }
     Ok(words)
@@ -45,10 +45,10 @@ fn main(rt: HostRuntime) -> ExitCode {
     let mut out = StdoutSink::new(rt.stdout());
     let mut err = StderrSink::new(rt.stderr());
     let status = match words(&rt) {
-        Ok(words) => run_words(rt.alloc(), words.as_slice(), &mut src, &mut out, &mut err),
+        Ok(words) => run_process(rt.alloc(), words.as_slice(), &mut src, &mut out, &mut err),
         // a word that is no text is none of a command's
         Err(error) if error.kind() == ErrorKind::InvalidData => {
-            run_words(rt.alloc(), &[], &mut src, &mut out, &mut err)
+            run_process(rt.alloc(), &[], &mut src, &mut out, &mut err)
         }
         Err(_) => no_memory(&mut err),
     };

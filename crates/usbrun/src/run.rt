@@ -75,7 +75,7 @@ fn go_on<S: Source, K: Sink, T: Sink>(
     match look(session, src, out) {
         Some(Next::Line(n)) => take_line(session, n, out, trace),
         Some(Next::Nothing) => Some(Stop::Short),
-        Some(Next::TooLong) => Some(Stop::Refused(1)),
+        Some(Next::LineTooLong) => Some(Stop::Refused(1)),
         Some(Next::ReadFault) => Some(Stop::ReadFault),
         None => Some(Stop::OutFault),
     }

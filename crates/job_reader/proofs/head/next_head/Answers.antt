@@ -19,5 +19,5 @@ returns-in-Err-clause-head g c =
     head_refused c.in-Err.fault.rule _ c.in-Line.n _ _ _ _ _ _ c.in-Line.ensures.finds c.in-Line.ensures.next c.in-Line.ensures.ended
     (inl (rw c.line.ensures at c.in-Err.ensures.rule))
 
-pub returns-in-TooLong-clause-head : goal.returns-in-TooLong-clause-head
-returns-in-TooLong-clause-head g c = head_long _ _ _ _ _ _ _ c.in-TooLong.ensures.finds c.in-TooLong.ensures.next.0 c.in-TooLong.ensures.next.1
+pub returns-in-LineTooLong-clause-head : goal.returns-in-LineTooLong-clause-head
+returns-in-LineTooLong-clause-head g c = head_long _ _ _ _ _ _ _ c.in-LineTooLong.ensures.finds c.in-LineTooLong.ensures.next.0 c.in-LineTooLong.ensures.next.1

@@ -9,7 +9,7 @@ returns-in-Some-Line-clause-goes g c =
     goes_line c.in-Some-Line.n _ _ (both _ (g.T.Sink.taken c.args.trace.now)) (both _ (g.T.Sink.taken c.args.trace.now)) _ _ _ _ c.in-Some-Line.ensures.looks refl found
     c.in-Some-Line.ensures.ended c.take_line.result c.take_line.ensures.takes
 
-pub returns-in-Some-TooLong-clause-goes : goal.returns-in-Some-TooLong-clause-goes
-returns-in-Some-TooLong-clause-goes g c =
-    let found = rw c.in-Some-TooLong.field-0-is at c.in-Some-TooLong.ensures.next in
-    halts_long _ _ _ _ _ _ _ c.in-Some-TooLong.ensures.looks found.0 found.1
+pub returns-in-Some-LineTooLong-clause-goes : goal.returns-in-Some-LineTooLong-clause-goes
+returns-in-Some-LineTooLong-clause-goes g c =
+    let found = rw c.in-Some-LineTooLong.field-0-is at c.in-Some-LineTooLong.ensures.next in
+    halts_long _ _ _ _ _ _ _ c.in-Some-LineTooLong.ensures.looks found.0 found.1
