@@ -103,15 +103,27 @@ head_front : (draft : Draft) (left left' : Option (List ℕ)) (new : Lines) (res
 head_front draft left left' new rest h ends e =
     front_of left left' new h.heads [] rest (head_gone left left' new h.heads h.gone) ends h.lines tt (inl refl) (head_small draft left left' new h) e
 
+some_is : (r : Option (ArrayVec ℕ)) → is_some r ≡ is_some (option_map (λ (v : ArrayVec ℕ). v.items) r)
+some_is None = refl
+some_is (Some v) = refl
+
+-- the set of a draft is accepted where no rule is broken
+pub set_accepted : (draft : Draft) (set : Set) → set ≡ record {
+  device = draft.device.items;
+  config = draft.config.items;
+  strings = map string_descriptor draft.strings.items;
+  report = option_map (λ r. r.items) draft.report;
+} → verdict draft.device.items draft.config.items (is_some draft.report) limits ≡ None → verdict set.device set.config (is_some set.report) limits ≡ None
+set_accepted draft set e ok =
+    subst (λ (s : Set). verdict s.device s.config (is_some s.report) limits ≡ None) (sym e)
+    (ap (λ r. verdict draft.device.items draft.config.items r limits) (sym (some_is draft.report)) ∙ ok)
+
 module _ (draft : Draft) (left left' : Option (List ℕ)) (new : Lines) (h : HeadSoFar draft left left' new_lines new) where
   set_is : verdict draft.device.items draft.config.items (is_some draft.report) limits ≡ set_fault h.heads
   set_is =
       ap (λ d. verdict d draft.config.items (is_some draft.report) limits) h.holds.device
       ∙ ap (λ c. verdict (parts_of h.heads).device c (is_some draft.report) limits) h.holds.config
-      ∙ ap (λ r. verdict (parts_of h.heads).device (parts_of h.heads).config r limits) (some_is draft.report ∙ ap is_some h.holds.report) where
-        some_is : (r : Option (ArrayVec ℕ)) → is_some r ≡ is_some (option_map (λ (v : ArrayVec ℕ). v.items) r)
-        some_is None = refl
-        some_is (Some v) = refl
+      ∙ ap (λ r. verdict (parts_of h.heads).device (parts_of h.heads).config r limits) (some_is draft.report ∙ ap is_some h.holds.report)
 
   pub accepted : is_whole h.heads ≡ true → verdict draft.device.items draft.config.items (is_some draft.report) limits ≡ None → IsAccepted h.heads
   accepted whole ok = record { lines = h.lines; whole = whole; set = sym set_is ∙ ok }

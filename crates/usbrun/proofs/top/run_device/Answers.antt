@@ -1,8 +1,11 @@
 use Rattle.std.proofs.Common.{refl, ap, ◌∙◌, arith}
 use Rattle.usb_edge.proofs.Streams.{rose_within}
 use Rattle.usbrun.specs.declared.texts.Texts.{Texts}
-use Rattle.usbrun.proofs.Endings.{head_ends, head_faults, set_ends, memory_ends, accepted, set_shows, run_ends, run_faults}
+use Rattle.usbrun.proofs.Endings.{head_ends, head_faults, set_ends, memory_ends, accepted, set_shows, run_ends, run_faults, set_accepted}
 use Rattle.usbrun.proofs.top.run_device.Goals as goal
+
+pub open-requires : goal.open-requires
+open-requires g c = set_accepted c.in-Ok.draft c.in-Ok-set_of.set c.in-Ok-set_of.ensures.shows c.in-Ok-set_of.ensures.accepted
 
 pub returns-in-Err-clause-ends : goal.returns-in-Err-clause-ends
 returns-in-Err-clause-ends g c =
