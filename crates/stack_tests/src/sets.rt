@@ -5,6 +5,7 @@ ghost use Rattle.usb_descriptor.specs.Set.{IsAccepted};
 ghost use Rattle.dwc2_regs.specs.declared.access.TheConstants.{FS4};
 ghost use Rattle.usbd_core.specs.Device.{tops};
 
+use dwc2_regs::FS4;
 use usb_descriptor::{DescSet, EpLimits, SetFault, SetParts, StringPart, read_set};
 
 /// A device with packets of 64 bytes on endpoint 0, and one configuration (USB 2.0, 9.6.1).
@@ -24,8 +25,8 @@ pub fn set_of<'a>(config: &'a [u8], strings: &'a [StringPart]) -> Result<DescSet
         report: None,
     };
     let limits = EpLimits {
-        in_top: 3,
-        out_top: 3,
+        in_top: FS4.in_eps,
+        out_top: FS4.out_eps,
         report_known: true,
     };
     read_set(&parts, limits)

@@ -13,7 +13,9 @@ pub struct StdinSource {
 
 impl StdinSource {
     /// The standard input that the runtime hands to `main`.
-    pub fn new(stdin: Stdin) -> StdinSource {
+    pub fn new(stdin: Stdin) -> StdinSource
+        ensures { result.faults ≡ 0 }
+    {
         StdinSource { stdin, faults: 0 }
     }
 }
@@ -37,7 +39,9 @@ pub struct StdoutSink {
 
 impl StdoutSink {
     /// The standard output that the runtime hands to `main`.
-    pub fn new(stdout: Stdout) -> StdoutSink {
+    pub fn new(stdout: Stdout) -> StdoutSink
+        ensures { result.faults ≡ 0 }
+    {
         StdoutSink { stdout, faults: 0 }
     }
 }
@@ -61,7 +65,9 @@ pub struct StderrSink {
 
 impl StderrSink {
     /// The standard error that the runtime hands to `main`.
-    pub fn new(stderr: Stderr) -> StderrSink {
+    pub fn new(stderr: Stderr) -> StderrSink
+        ensures { result.faults ≡ 0 }
+    {
         StderrSink { stderr, faults: 0 }
     }
 }

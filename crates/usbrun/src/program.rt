@@ -1,5 +1,6 @@
 ghost use Rattle.std.specs.Prelude.{◌≡◌, ◌⊎◌, None, map, string_bytes, drop};
 ghost use Rattle.usbrun.specs.Written.{ways};
+ghost use Rattle.usbrun.specs.Status.{Tells};
 ghost use Rattle.usbrun.specs.Top.{Claims};
 
 use crate::status::Status;
@@ -7,21 +8,19 @@ use crate::top::{tell, usb_top};
 use std::alloc::Global;
 use usb_edge::{FileDisks, NoSink, Sink, Source, StderrSink, StdinSource, StdoutSink};
 
-/// Runs the program on these words and on the process's streams: its job comes from standard input, its output goes to
-/// standard output, and what it ends with is told on standard error. Nobody reads its trace.
-fn run_words(
+/// Runs the program on these words: its job comes from `src`, its output goes to `out`, and what it ends with is told on
+/// `err`. Nobody reads its trace. Where there is no memory for the words, nothing is read and nothing written but that.
+fn run_words<S: Source, K: Sink, E: Sink>(
     alloc: Global,
     words: &[String],
-    src: &mut StdinSource,
-    out: &mut StdoutSink,
-    err: &mut StderrSink,
+    src: &mut S,
+    out: &mut K,
+    err: &mut E,
 ) -> Status
-    ensures claims { (result ≡ Status.NoMemory) ⊎ Claims result (map string_bytes words.now) (ways
-        (⟦<StdinSource as Source>⟧.left src.old) (⟦<StdinSource as Source>⟧.left src.new)
-        (⟦<StdinSource as Source>⟧.faults src.old) (⟦<StdinSource as Source>⟧.faults src.new)
-        (⟦<StdoutSink as Sink>⟧.taken out.old) (⟦<StdoutSink as Sink>⟧.taken out.new)
-        (⟦<StdoutSink as Sink>⟧.faults out.old) (⟦<StdoutSink as Sink>⟧.faults out.new)
-        None None 0 0) }
+    ensures claims { ((result ≡ Status.NoMemory) × (src.new ≡ src.old) × (out.new ≡ out.old)) ⊎ Claims result (map string_bytes words.now) (ways
+        (S.left src.old) (S.left src.new) (S.faults src.old) (S.faults src.new)
+        (K.taken out.old) (K.taken out.new) (K.faults out.old) (K.faults out.new) None None 0 0) }
+    ensures errors { Tells result (E.taken err.old) (E.taken err.new) (E.faults err.old) (E.faults err.new) }
 {
     let mut texts: Vec<&str> = Vec::new(alloc);
     for word in words {
@@ -42,7 +41,7 @@ fn run_words(
     )
 }
 
-/// The same on the process's words, of which the first is the program's name.
+/// Runs the program on the process's words, of which the first is the program's name, and on the process's streams.
 pub fn run_process(
     alloc: Global,
     args: &[String],
@@ -50,7 +49,7 @@ pub fn run_process(
     out: &mut StdoutSink,
     err: &mut StderrSink,
 ) -> Status
-    ensures claims { (result ≡ Status.NoMemory) ⊎ Claims result (map string_bytes (drop 1 args.now)) (ways
+    ensures claims { ((result ≡ Status.NoMemory) × (src.new ≡ src.old) × (out.new ≡ out.old)) ⊎ Claims result (map string_bytes (drop 1 args.now)) (ways
         (⟦<StdinSource as Source>⟧.left src.old) (⟦<StdinSource as Source>⟧.left src.new)
         (⟦<StdinSource as Source>⟧.faults src.old) (⟦<StdinSource as Source>⟧.faults src.new)
         (⟦<StdoutSink as Sink>⟧.taken out.old) (⟦<StdoutSink as Sink>⟧.taken out.new)
@@ -71,8 +70,9 @@ fn behind_first(words: &[String]) -> &[String]
 }
 
 /// Ends for want of memory, before anything was read.
-pub fn no_memory(err: &mut StderrSink) -> Status
-    ensures { result ≡ Status.NoMemory }
+pub fn no_memory<E: Sink>(err: &mut E) -> Status
+    ensures status { result ≡ Status.NoMemory }
+    ensures errors { Tells Status.NoMemory (E.taken err.old) (E.taken err.new) (E.faults err.old) (E.faults err.new) }
 {
     tell(Status::NoMemory, err);
     Status::NoMemory

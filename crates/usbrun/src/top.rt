@@ -14,6 +14,7 @@ use crate::session::{Session, Stop};
 use crate::status::Status;
 use crate::texts::Texts;
 use device_run::DeviceRun;
+use dwc2_regs::FS4;
 use job_reader::{Draft, Lines, NoHead, read_heads};
 use std::alloc::Global;
 use usb_descriptor::{DescSet, EpLimits, SetFault, SetParts, read_set};
@@ -183,8 +184,8 @@ fn set_of(draft: &Draft) -> Result<DescSet, SetFault>
         report: draft.report(),
     };
     let limits = EpLimits {
-        in_top: 3,
-        out_top: 3,
+        in_top: FS4.in_eps,
+        out_top: FS4.out_eps,
         report_known: true,
     };
     read_set(&parts, limits)
