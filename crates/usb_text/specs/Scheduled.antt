@@ -5,6 +5,8 @@ use Rattle.device_line.specs.declared.line.DevLine.TheVariants as line
 use Rattle.usb_text.specs.declared.line.ServedLine.{ServedLine}
 use Rattle.usb_text.specs.declared.line.ServedLine.TheVariants.{Bus, Irq, Task, State}
 use Rattle.usb_text.specs.declared.line.ScheduleLine.{ScheduleLine}
+use Rattle.usb_text.specs.declared.reading.RunLine.{RunLine}
+use Rattle.usb_text.specs.declared.reading.RunLine.TheVariants as run
 use Rattle.usb_text.specs.declared.line.ScheduleLine.TheVariants as schedule
 
 pub data Scheduled : Type 0 where
@@ -20,3 +22,7 @@ device_line State = line.Call call.State
 abbrev pub scheduled : ScheduleLine → Scheduled
 scheduled (schedule.Served l) = Device (device_line l)
 scheduled schedule.End = End
+
+abbrev pub run_line : RunLine → DevLine
+run_line run.Irq = line.Irq
+run_line run.Task = line.Task

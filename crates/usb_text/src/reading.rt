@@ -1,10 +1,12 @@
-ghost use Rattle.std.specs.Prelude.{◌≡◌, None, Some, Ok, IfOk, IfErr};
+ghost use Rattle.std.specs.Prelude.{◌≡◌, None, Some, Ok, IfOk, IfErr, IfSome, IfNone};
 ghost use Rattle.line_rules.specs.declared.rules.Mode.TheVariants as mode;
 ghost use Rattle.line_rules.specs.declared.rules.Place.TheVariants as place;
 ghost use Rattle.line_rules.specs.Rules.{lowest};
 ghost use Rattle.usb_text.specs.declared.line.Line.{Line};
-ghost use Rattle.usb_text.specs.Scheduled.{Scheduled, scheduled};
+ghost use Rattle.usb_text.specs.Scheduled.{Scheduled, scheduled, run_line};
 ghost use Rattle.usb_text.specs.declared.head.HeadLine.{HeadLine};
+ghost use Rattle.usb_text.specs.Scheduled.{Device};
+ghost use Rattle.usb_text.specs.declared.reading.RunLine.{RunLine};
 ghost use Rattle.usb_text.specs.Line.{line_text, schedule_text_of, IsInRange, IsLine, IsScheduled};
 ghost use Rattle.usb_text.specs.Lines.{StandsIn, line_in};
 ghost use Rattle.usb_text.specs.Head.{head_text, IsHead};
@@ -78,5 +80,26 @@ pub fn read_schedule(line: &[u8]) -> Result<ScheduleLine, LineFault>
             Some(rule) => Err(LineFault { rule }),
             None => unreachable!(),
         },
+    }
+}
+
+/// A line of the schedule that is one run.
+#[derive(Clone, Copy, Debug, PartialEq, Eq)]
+pub enum RunLine {
+    Irq,
+    Task,
+}
+
+/// The run that a line of the schedule is, where it is one. Most lines are, and this has no room for a packet.
+pub fn read_run(line: &[u8]) -> Option<RunLine>
+    ensures found { IfSome result (λ run. line.now ≡ schedule_text_of (Device (run_line run))) }
+    ensures none { IfNone result ((run : RunLine) → line.now ≡ schedule_text_of (Device (run_line run)) → ⊥) }
+{
+    if line == b"irq".as_slice() {
+        Some(RunLine::Irq)
+    } else if line == b"task".as_slice() {
+        Some(RunLine::Task)
+    } else {
+        None
     }
 }

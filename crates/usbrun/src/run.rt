@@ -1,28 +1,29 @@
-ghost use Rattle.std.specs.Prelude.{◌≡◌, ◌+◌, ◌≤◌, ◌<◌, Some, IfSome, IsTrue, true, ◌⊎◌, [], length, is_some};
+ghost use Rattle.std.specs.Prelude.{◌≡◌, ◌↔◌, take, ◌+◌, ◌≤◌, ◌<◌, Some, IfSome, IsTrue, true, ◌⊎◌, [], length, is_some};
 ghost use Rattle.dwc2_regs.specs.declared.access.TheConstants.{FS4};
 ghost use Rattle.device_table.specs.State.{opened};
 ghost use Rattle.usb_edge.specs.Stream.{Rose, IsAtEnd};
 ghost use Rattle.usb_edge.specs.Outcome.{faults_at_tell};
 ghost use Rattle.device_machine.specs.Core.{start};
-ghost use Rattle.usb_text.specs.Scheduled.{device_line};
+ghost use Rattle.usb_text.specs.Line.{schedule_text_of};
+ghost use Rattle.usb_text.specs.Scheduled.{Device, device_line, run_line};
 ghost use Rattle.device_line.specs.declared.line.Answer.TheVariants.{Bus, Reply as TheReply};
 ghost use Rattle.device_schedule.specs.Schedule.{core_answer};
 ghost use Rattle.device_text.specs.Job.{most_bytes};
 ghost use Rattle.device_run.specs.Run.{Steps};
 ghost use Rattle.usbrun.specs.Stream.{HasRoom};
 ghost use Rattle.usbrun.specs.Texts.{trace_part, added_where, both, Hears};
-ghost use Rattle.job_reader.specs.Lines.{IsLineAt};
+ghost use Rattle.job_reader.specs.Lines.{IsLineAt, size_of};
 ghost use Rattle.usbrun.specs.Session.{Looks, FindsNext, Keeps, TakesLine, Goes, Runs, out_faults, trace_faults, out_faults_at, trace_faults_at};
 
 use crate::session::{Session, Stop};
 use crate::texts::Texts;
 use crate::turn::{BusTurn, ReplyTurn};
 use dwc2_regs::Access;
-use job_reader::{Next, line_break};
+use job_reader::{Lines, Next, line_break};
 use usb_edge::{Sink, Source};
 use usb_packet::BusAnswer;
 use usb_pipe::Reply;
-use usb_text::{DevCall, ScheduleLine, ServedLine, read_schedule};
+use usb_text::{DevCall, RunLine, ScheduleLine, ServedLine, read_run, read_schedule};
 
 /// The most bytes that a job has, up to and with its last line.
 const MOST_BYTES: u64 = 1_073_741_824;
@@ -118,11 +119,14 @@ fn take_line<K: Sink, T: Sink>(
     ensures out_faults { K.faults out.new ≡ out_faults_at result (K.faults out.old) }
     ensures trace_faults { T.faults trace.new ≡ trace_faults_at result (T.faults trace.old) }
 {
+    if let Some(run) = read_run(session.lines.line(n)) {
+        return take_run(session, n, run, out, trace);
+    }
     let line = match read_schedule(session.lines.line(n)) {
         Ok(line) => line,
         Err(fault) => return Some(Stop::Refused(fault.rule)),
     };
-    if session.lines.count + session.lines.size(n) as u64 > MOST_BYTES {
+    if is_too_long(&session.lines, n) {
         return Some(Stop::TooLong);
     }
     match line {
@@ -134,6 +138,75 @@ fn take_line<K: Sink, T: Sink>(
             let told = answer(session, &line, trace);
             session.lines.take(n);
             if told { None } else { Some(Stop::TraceFault) }
+        }
+    }
+}
+
+/// Whether the job would have too many bytes with the line of `n` bytes that stands in front.
+fn is_too_long(lines: &Lines, n: usize) -> bool
+    requires count { lines.now.count ≤ most_bytes }
+    requires line { IsLineAt n lines.now }
+    ensures { IsTrue result ↔ (most_bytes < lines.now.count + size_of n lines.now.reader) }
+{
+    MOST_BYTES - lines.count < lines.size(n) as u64
+}
+
+#[tactic(auto, using(crate::proofs::Handed::nothing_handed, crate::proofs::Handed::then_added))]
+/// The same where the line is one run.
+fn take_run<K: Sink, T: Sink>(
+    session: &mut Session,
+    n: usize,
+    run: RunLine,
+    out: &mut K,
+    trace: &mut T,
+) -> Option<Stop>
+    requires count { session.old.lines.count ≤ most_bytes }
+    requires lines { session.old.lines.lines ≤ session.old.lines.count }
+    requires line { IsLineAt n session.old.lines }
+    requires text { take n session.old.lines.reader ≡ schedule_text_of (Device (run_line run)) }
+    ensures takes { TakesLine result n (both (K.taken out.old) (T.taken trace.old)) (both (K.taken out.new) (T.taken trace.new)) session.old session.new }
+    ensures read_fault { result ≡ Some Stop.ReadFault → ⊥ }
+    ensures out_faults { K.faults out.new ≡ out_faults_at result (K.faults out.old) }
+    ensures trace_faults { T.faults trace.new ≡ trace_faults_at result (T.faults trace.old) }
+{
+    if is_too_long(&session.lines, n) {
+        return Some(Stop::TooLong);
+    }
+    if !make_room(session, out) {
+        return Some(Stop::OutFault);
+    }
+    let told = answer_run(session, run, trace);
+    session.lines.take(n);
+    if told { None } else { Some(Stop::TraceFault) }
+}
+
+/// Lets the device serve one run, and tells of it as of the answer to any line.
+fn answer_run<T: Sink>(session: &mut Session, run: RunLine, trace: &mut T) -> bool
+    requires { HasRoom session.old.texts.out }
+    ensures told { Hears result (T.taken trace.old) (T.taken trace.new) (trace_part session.new.run.log (core_answer session.old.run.core (run_line run))) }
+    ensures texts { session.new.texts ≡ added_where result session.old.texts session.new.run.log (core_answer session.old.run.core (run_line run)) }
+    ensures run { Steps session.old.run session.new.run (run_line run) (core_answer session.old.run.core (run_line run)) }
+    ensures lines { session.new.lines ≡ session.old.lines }
+    ensures exact { T.faults trace.new ≡ faults_at_tell result (T.faults trace.old) }
+{
+    match run {
+        RunLine::Irq => {
+            session.run.irq();
+            tell_bus(
+                session.run.trace(),
+                &BusAnswer::Done,
+                &mut session.texts,
+                trace,
+            )
+        }
+        RunLine::Task => {
+            session.run.task();
+            tell_bus(
+                session.run.trace(),
+                &BusAnswer::Done,
+                &mut session.texts,
+                trace,
+            )
         }
     }
 }
