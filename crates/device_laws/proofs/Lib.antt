@@ -8,3 +8,4 @@ pub mod Progress
 pub mod Delivery
 pub mod Delivered
 pub mod Ended
+pub mod Traces

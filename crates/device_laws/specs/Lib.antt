@@ -3,3 +3,4 @@ pub mod Requests
 pub mod Examples
 pub mod Seen
 pub mod Reading
+pub mod Traces

@@ -12,6 +12,7 @@ ghost use Rattle.device_laws.specs.Requests.{all_differ, Each, IsDone, Direction
 ghost use Rattle.device_laws.specs.Examples.{PlainIsRead, Reads, Setups, Addresses, Sessions};
 ghost use Rattle.device_laws.specs.Seen.{AddressIsSeen, SetupIsHeard, OthersAreIgnored, BusyAnswersNak};
 ghost use Rattle.device_laws.specs.Reading.{ReadsAreDelivered, ReadsEnd};
+ghost use Rattle.device_laws.specs.Traces.{AreTraces, AreNoTraces, TurnsAreOfTheTable};
 
 /// The packets of a data stage for the host: joined they are the data, cut to what the host asks for; each but the last has
 /// 64 bytes; the last is shorter, or the host has all that it asked for; and it is empty only where the host asked for more
@@ -71,4 +72,15 @@ pub fn reads_are_delivered()
 /// schedule's answers.
 pub fn answers_are_of_the_core()
     ensures { (set : Set) (before : List DevLine) (line : DevLine) → answer_to set before line ≡ core_answer (core_state set before) line }
+{}
+
+/// The accesses to registers in a trace are a run of the controller from its opened state on, over every trace: each turn's
+/// accesses are steps of the controller after all turns before it, 400 at most, and on the bus there are none and the answer
+/// is the controller's. Traces worked by hand after RM0090 are ones, and others are none: with a SETUP that is acknowledged
+/// though nothing woke the device, with a read of another word, at no register, of more than 400 accesses, on the bus, and
+/// from another state than the opened one.
+pub fn traces_are_of_the_table()
+    ensures turns { TurnsAreOfTheTable }
+    ensures some { AreTraces }
+    ensures none { AreNoTraces }
 {}
