@@ -9,3 +9,4 @@ pub mod Delivery
 pub mod Delivered
 pub mod Ended
 pub mod Traces
+pub mod LastLine

@@ -4,3 +4,4 @@ pub mod Examples
 pub mod Seen
 pub mod Reading
 pub mod Traces
+pub mod LastLine

@@ -13,6 +13,7 @@ ghost use Rattle.device_laws.specs.Examples.{PlainIsRead, Reads, Setups, Address
 ghost use Rattle.device_laws.specs.Seen.{AddressIsSeen, SetupIsHeard, OthersAreIgnored, BusyAnswersNak};
 ghost use Rattle.device_laws.specs.Reading.{ReadsAreDelivered, ReadsEnd};
 ghost use Rattle.device_laws.specs.Traces.{AreTraces, AreNoTraces, TurnsAreOfTheTable};
+ghost use Rattle.device_laws.specs.LastLine.{LacksAtMostOne};
 
 /// The packets of a data stage for the host: joined they are the data, cut to what the host asks for; each but the last has
 /// 64 bytes; the last is shorter, or the host has all that it asked for; and it is empty only where the host asked for more
@@ -83,4 +84,10 @@ pub fn traces_are_of_the_table()
     ensures turns { TurnsAreOfTheTable }
     ensures some { AreTraces }
     ensures none { AreNoTraces }
+{}
+
+/// The last line of a job's text may lack its newline: a text that ends with one is read as it is, and one that ends with
+/// another byte as if a newline stood behind it.
+pub fn last_newline_may_lack()
+    ensures { LacksAtMostOne }
 {}
