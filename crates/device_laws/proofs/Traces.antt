@@ -39,11 +39,19 @@ are_traces = record {
     run = (
       (refl, refl),
       (
-        (((refl, λ w. refl), ((refl, λ w. absurd (cc)), ((refl, λ w. refl), tt))), omega arith, ((omega arith, omega arith), ((omega arith, omega arith), ((omega arith, omega arith), tt)))),
+        (
+          ((refl, λ w. refl), ((refl, λ w. absurd (cc)), ((refl, λ w. refl), tt))),
+          omega arith,
+          ((omega arith, omega arith), ((omega arith, omega arith), ((omega arith, omega arith), tt))),
+        ),
         (
           (refl, refl),
           (
-            (((refl, λ w. refl), ((refl, λ w. refl), ((refl, λ w. refl), ((refl, λ w. refl), ((refl, λ w. refl), ((refl, λ w. refl), tt)))))), omega arith, ((omega arith, omega arith), ((omega arith, omega arith), ((omega arith, omega arith), ((omega arith, omega arith), ((omega arith, omega arith), ((omega arith, omega arith), tt))))))),
+            (
+              ((refl, λ w. refl), ((refl, λ w. refl), ((refl, λ w. refl), ((refl, λ w. refl), ((refl, λ w. refl), ((refl, λ w. refl), tt)))))),
+              omega arith,
+              ((omega arith, omega arith), ((omega arith, omega arith), ((omega arith, omega arith), ((omega arith, omega arith), ((omega arith, omega arith), ((omega arith, omega arith), tt)))))),
+            ),
             tt,
           ),
         ),
@@ -132,13 +140,14 @@ rests t (first ∷ before) now behind h =
 is_of : (t : Table) (line : DevLine) (accesses : List Access) (a : Answer) → IsTurn t line accesses a → IsOf t (turn line accesses a)
 is_of t (Bus e) accesses a h = record {
   steps = subst (AreSteps t) (sym h.0) tt;
+  words = subst (AllByRecursion IsAccess) (sym h.0) tt;
   most = let none : length accesses ≡ 0 = ap length h.0 in omega (arith, none);
   silent = λ f same. h.0;
   answered = λ f same. let e' : e ≡ f = cc (same) in h.1 ∙ ap (λ x. answer.Bus (bus_answer t x)) e';
 }
-is_of t Irq accesses a h = record { steps = h.0; most = h.1; silent = λ f same. absurd (cc (same)); answered = λ f same. absurd (cc (same)) }
-is_of t Task accesses a h = record { steps = h.0; most = h.1; silent = λ f same. absurd (cc (same)); answered = λ f same. absurd (cc (same)) }
-is_of t (Call call) accesses a h = record { steps = h.0; most = h.1; silent = λ f same. absurd (cc (same)); answered = λ f same. absurd (cc (same)) }
+is_of t Irq accesses a h = record { steps = h.0; words = h.2; most = h.1; silent = λ f same. absurd (cc (same)); answered = λ f same. absurd (cc (same)) }
+is_of t Task accesses a h = record { steps = h.0; words = h.2; most = h.1; silent = λ f same. absurd (cc (same)); answered = λ f same. absurd (cc (same)) }
+is_of t (Call call) accesses a h = record { steps = h.0; words = h.2; most = h.1; silent = λ f same. absurd (cc (same)); answered = λ f same. absurd (cc (same)) }
 
 pub turns_are_of_the_table : TurnsAreOfTheTable
 turns_are_of_the_table set schedule before now behind h =

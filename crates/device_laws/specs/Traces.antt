@@ -1,5 +1,6 @@
 -- Traces with the accesses to registers, worked by hand after RM0090: what is one, what is none, and what each is.
 use Rattle.std.specs.Prelude.{◌≡◌, ◌≤◌, ℕ, List, [], ◌∷◌, ◌++◌, true, false, map, length, replicate}
+use Rattle.std.specs.List.{AllByRecursion}
 use Rattle.usb_packet.specs.declared.bus.BusEvent.{BusEvent}
 use Rattle.usb_packet.specs.declared.bus.BusEvent.TheVariants as event
 use Rattle.usb_descriptor.specs.Set.{Set}
@@ -8,6 +9,7 @@ use Rattle.dwc2_regs.specs.declared.access.Access.{Access}
 use Rattle.device_table.specs.State.{Table, opened}
 use Rattle.device_table.specs.Bus.{bus_answer, after_bus}
 use Rattle.dwc2_access.specs.Run.{AreSteps, accesses_after}
+use Rattle.register_text.specs.Access.{IsAccess}
 use Rattle.usb_pipe.specs.declared.reply.Reply.TheVariants as reply
 use Rattle.device_line.specs.declared.line.DevLine.{DevLine}
 use Rattle.device_line.specs.declared.line.DevLine.TheVariants.{Bus, Irq, Task, Call}
@@ -31,9 +33,9 @@ grxstsp = 0x020
 abbrev pub window_0 : ℕ
 window_0 = 0x1000
 
--- no register that the controller has
+-- within GINTSTS, where no register begins
 abbrev pub nowhere : ℕ
-nowhere = 0x008
+nowhere = 0x016
 
 abbrev pub reads : ℕ → ℕ → Access
 reads off word = record { write = false; off = off; value = word }
@@ -81,7 +83,8 @@ NoneHas before accesses =
 
 -- What is none
 pub record AreNoTraces : Type 0 where
-  -- nothing woke the device: it doesn't acknowledge the SETUP, though its machine does, which a handler run wakes
+  -- nothing woke the device: it doesn't answer a SETUP, though a handler run wakes its machine, which acknowledges it. Neither
+  -- answer is both the device's and the machine's
   pub asleep : IsWorked (at_reset ∷ turn Irq [] done ∷ at_setup ack ∷ []) → ⊥
   pub unanswered : IsWorked (at_reset ∷ turn Irq [] done ∷ at_setup none ∷ []) → ⊥
   -- USBRST was cleared before it was set
@@ -116,10 +119,11 @@ abbrev pub table_after : Table → List Turn → Table
 table_after t [] = t
 table_after t (now ∷ behind) = table_after (with_event (accesses_after t now.accesses) now.line) behind
 
--- a turn from this controller on: its accesses are steps of it, there are 400 at most, and on the bus none; there its answer
--- is the controller's
+-- a turn from this controller on: its accesses are steps of it with words of 32 bits, there are 400 at most, and on the bus
+-- none; there its answer is the controller's
 pub record IsOf (t : Table) (now : Turn) : Type 0 where
   pub steps : AreSteps t now.accesses
+  pub words : AllByRecursion IsAccess now.accesses
   pub most : length now.accesses ≤ 400
   pub silent : (e : BusEvent) → now.line ≡ Bus e → now.accesses ≡ []
   pub answered : (e : BusEvent) → now.line ≡ Bus e → now.answer ≡ answer.Bus (bus_answer t e)
