@@ -190,25 +190,15 @@ fn answer_run<T: Sink>(session: &mut Session, run: RunLine, trace: &mut T) -> bo
     ensures exact { T.faults trace.new ≡ faults_at_tell result (T.faults trace.old) }
 {
     match run {
-        RunLine::Irq => {
-            session.run.irq();
-            tell_bus(
-                session.run.trace(),
-                &BusAnswer::Done,
-                &mut session.texts,
-                trace,
-            )
-        }
-        RunLine::Task => {
-            session.run.task();
-            tell_bus(
-                session.run.trace(),
-                &BusAnswer::Done,
-                &mut session.texts,
-                trace,
-            )
-        }
+        RunLine::Irq => session.run.irq(),
+        RunLine::Task => session.run.task(),
     }
+    tell_bus(
+        session.run.trace(),
+        &BusAnswer::Done,
+        &mut session.texts,
+        trace,
+    )
 }
 
 #[tactic(auto, using(crate::proofs::Handed::nothing_handed))]
@@ -239,24 +229,8 @@ fn answer<T: Sink>(session: &mut Session, line: &ServedLine, trace: &mut T) -> b
             let answer = session.run.bus(event);
             tell_bus(session.run.trace(), &answer, &mut session.texts, trace)
         }
-        ServedLine::Irq => {
-            session.run.irq();
-            tell_bus(
-                session.run.trace(),
-                &BusAnswer::Done,
-                &mut session.texts,
-                trace,
-            )
-        }
-        ServedLine::Task => {
-            session.run.task();
-            tell_bus(
-                session.run.trace(),
-                &BusAnswer::Done,
-                &mut session.texts,
-                trace,
-            )
-        }
+        ServedLine::Irq => answer_run(session, RunLine::Irq, trace),
+        ServedLine::Task => answer_run(session, RunLine::Task, trace),
         ServedLine::State => {
             let reply = session.run.reply(&DevCall::State);
             tell_reply(session.run.trace(), &reply, &mut session.texts, trace)
