@@ -181,6 +181,7 @@ fn take_run<K: Sink, T: Sink>(
 }
 
 /// Lets the device serve one run, and tells of it as of the answer to any line.
+#[inline(always)]
 fn answer_run<T: Sink>(session: &mut Session, run: RunLine, trace: &mut T) -> bool
     requires { HasRoom session.old.texts.out }
     ensures told { Hears result (T.taken trace.old) (T.taken trace.new) (trace_part session.new.run.log (core_answer session.old.run.core (run_line run))) }
@@ -240,6 +241,7 @@ fn answer<T: Sink>(session: &mut Session, line: &ServedLine, trace: &mut T) -> b
 
 /// Tells the trace the accesses of a line and what the device answers on the bus, and then the output: whether the trace
 /// took them.
+#[inline(always)]
 fn tell_bus<T: Sink>(
     accesses: &[Access],
     answer: &BusAnswer,
