@@ -5,6 +5,8 @@
 #[cfg(test)]
 mod driver;
 #[cfg(test)]
+mod host;
+#[cfg(test)]
 mod model;
 #[cfg(test)]
 mod run;
