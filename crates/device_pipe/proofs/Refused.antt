@@ -203,6 +203,14 @@ pub in_stalls : (size : ℕ) (capacity : ℕ) (pipe : InPipe) (events : List InE
     in_answer (inward.after_events size capacity pipe events) ≡ answers.Stall
 in_stalls size capacity pipe events e o c = in_stalled_run size capacity pipe events c (record { is_halted = e; is_open = o })
 
+-- a halt halts
+pub halt_stalls : (pipe : OutPipe) (events : List OutEvent) → IsOutOpen pipe.phase → All ClearsNoOut events → out_answer (after_events pipe (Does Halts ∷ events)) ≡ answers.Stall
+halt_stalls pipe events o c = out_stalls (after_deed pipe Halts) events refl o c
+
+pub in_halt_stalls : (size : ℕ) (capacity : ℕ) (pipe : InPipe) (events : List InEvent) → IsInOpen pipe.phase → All ClearsNoIn events →
+    in_answer (inward.after_events size capacity pipe (inward.Does inward.Halts ∷ events)) ≡ answers.Stall
+in_halt_stalls size capacity pipe events o c = in_stalls size capacity (inward.halted_ pipe) events refl o c
+
 -- a pipe that isn't armed
 abbrev IsIdle : OutPhase → Type 0
 IsIdle Armed = ⊥

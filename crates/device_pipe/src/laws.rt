@@ -72,6 +72,18 @@ pub fn nothing_lost()
     ensures in_queue_at_halt { (pipe : InPipe) → (inward.halted_ pipe).queue ≡ pipe.queue }
 {}
 
+/// A halt halts a pipe, and leaves its toggle (9.4.9). From then on an open pipe answers STALL until a clear, whatever comes between
+/// (8.4.5, 9.4.5).
+pub fn halt()
+    ensures out_halt { (pipe : OutPipe) → (out.halted_ pipe).halted ≡ true }
+    ensures in_halt { (pipe : InPipe) → (inward.halted_ pipe).halted ≡ true }
+    ensures in_toggle { (pipe : InPipe) → (inward.halted_ pipe).toggle ≡ pipe.toggle }
+    ensures out_stalls { (pipe : OutPipe) (events : List OutEvent) → IsOutOpen pipe.phase → All ClearsNoOut events →
+        out_answer (out.after_events pipe (out.Does out.Halts ∷ events)) ≡ answers.Stall }
+    ensures in_stalls { (size : ℕ) (capacity : ℕ) (pipe : InPipe) (events : List InEvent) → IsInOpen pipe.phase → All ClearsNoIn events →
+        in_answer (inward.after_events size capacity pipe (inward.Does inward.Halts ∷ events)) ≡ answers.Stall }
+{}
+
 /// A clear sets DATA0 and ends the halt (9.4.5). That of an IN pipe takes the bytes of the transfer that runs off the queue,
 /// and leaves nothing ready: what is sent next is the first packet of what was queued behind.
 pub fn clear()
