@@ -6,3 +6,4 @@ pub mod Refused
 pub mod Kept
 pub mod Moves
 pub mod Bounded
+pub mod Armed

@@ -19,7 +19,7 @@ same_itself : (t : Toggle) → same_toggle t t ≡ true
 same_itself D0 = refl
 same_itself D1 = refl
 
-same_flipped : (t : Toggle) → same_toggle t (flipped t) ≡ false
+pub same_flipped : (t : Toggle) → same_toggle t (flipped t) ≡ false
 same_flipped D0 = refl
 same_flipped D1 = refl
 
@@ -41,7 +41,7 @@ lands pipe packet e =
     ap (λ b. if b then record pipe { phase = Landed packet; toggle = flipped pipe.toggle } else pipe) (same_itself pipe.toggle)
 
 -- the device's deeds leave the toggle
-deed_toggle : (pipe : OutPipe) (d : OutDeed) → (after_deed pipe d).toggle ≡ pipe.toggle
+pub deed_toggle : (pipe : OutPipe) (d : OutDeed) → (after_deed pipe d).toggle ≡ pipe.toggle
 deed_toggle pipe Irq = refl
 deed_toggle pipe Task = refl
 deed_toggle pipe Arms = refl

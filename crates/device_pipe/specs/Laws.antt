@@ -1,6 +1,7 @@
 -- What the laws on pipes speak of: USB 2.0, 5.8.3, 8.4.5, 8.6 and 9.4.5.
 use Rattle.std.specs.Prelude.{◌≡◌, ◌≤◌, ℕ, zero, suc, ◌+◌, ◌++◌, List, [], ◌∷◌, Bool, true, false, ◌&&◌, length, take, drop, if◌then◌else◌, ⊤}
 use Rattle.std.specs.List.{concat}
+use Rattle.usb_packet.specs.declared.bus.Toggle.{Toggle}
 use Rattle.usb_packet.specs.declared.bus.BusAnswer.{BusAnswer}
 use Rattle.usb_packet.specs.declared.bus.BusAnswer.TheVariants as answers
 use Rattle.device_pipe.specs.Toggles.{same_toggle}
@@ -199,6 +200,28 @@ ArmsAndHaltsNothing (out.Does deed) = IsNoArmingOrHalt deed
 ArmsAndHaltsNothing (out.Packet toggle bytes) = ⊤
 ArmsAndHaltsNothing out.Clears = ⊤
 ArmsAndHaltsNothing out.Drops = ⊤
+
+-- the endpoint isn't halted
+abbrev pub IsNoOutHalt : OutDeed → Type 0
+IsNoOutHalt out.Irq = ⊤
+IsNoOutHalt out.Task = ⊤
+IsNoOutHalt out.Arms = ⊤
+IsNoOutHalt (out.Reads n) = ⊤
+IsNoOutHalt out.Halts = ⊥
+
+-- nothing that ends a pipe's arming: a packet of this toggle, a halt, or a clear
+abbrev pub LeavesArmed : Toggle → OutEvent → Type 0
+LeavesArmed expected (out.Packet toggle bytes) = same_toggle toggle expected ≡ false
+LeavesArmed expected (out.Does deed) = IsNoOutHalt deed
+LeavesArmed expected out.Clears = ⊥
+LeavesArmed expected out.Drops = ⊤
+
+-- no packet of this toggle, and no clear
+abbrev pub LeavesToggle : Toggle → OutEvent → Type 0
+LeavesToggle expected (out.Packet toggle bytes) = same_toggle toggle expected ≡ false
+LeavesToggle expected (out.Does deed) = ⊤
+LeavesToggle expected out.Clears = ⊥
+LeavesToggle expected out.Drops = ⊤
 
 -- no handler run
 abbrev pub IsNoIrq : OutDeed → Type 0

@@ -11,7 +11,7 @@ ghost use Rattle.device_pipe.specs.InPipe as inward;
 ghost use Rattle.device_pipe.specs.InPipe.{InPipe, InEvent, in_answer, cut};
 ghost use Rattle.device_pipe.specs.OutLink.{OutStep, out_run, out_start};
 ghost use Rattle.device_pipe.specs.InLink.{InStep, in_run, in_start};
-ghost use Rattle.device_pipe.specs.Laws.{IsTakenOnce, IsKeptOnce, IsBounded, AreFull, IsUnheard, took, read, DropsNothing, is_data, IsOutOpen, IsInOpen, ClearsNoOut, ClearsNoIn, ArmsNothing, ArmsAndHaltsNothing, RunsNoHandler, InRunsNoHandler, after_sessions, in_answers, rounds};
+ghost use Rattle.device_pipe.specs.Laws.{IsTakenOnce, IsKeptOnce, IsBounded, AreFull, IsUnheard, took, read, DropsNothing, is_data, IsOutOpen, IsInOpen, ClearsNoOut, ClearsNoIn, ArmsNothing, ArmsAndHaltsNothing, LeavesArmed, LeavesToggle, RunsNoHandler, InRunsNoHandler, after_sessions, in_answers, rounds};
 ghost use Rattle.device_pipe.specs.OutExamples.{out_successful, out_successful_end, out_not_accepted, out_not_accepted_end, out_unheard, out_unheard_end, out_again, out_again_end};
 ghost use Rattle.device_pipe.specs.InExamples.{in_successful, in_successful_end, in_lost, in_lost_end, in_unheard, in_unheard_end, in_again, in_again_end, in_full, in_full_end};
 
@@ -36,6 +36,15 @@ pub fn sent_again()
         in_answer pipe ≡ answers.Data toggle packet → in_answer (inward.after_events size capacity pipe events) ≡ answers.Data toggle packet }
 {}
 
+/// A pipe that is armed stays so: it acknowledges each packet, whatever handler runs, task runs, arms, reads, drops and packets
+/// of the other toggle come between, until one of its toggle comes. That lands.
+pub fn stays_armed()
+    ensures acknowledges { (pipe : OutPipe) (events : List OutEvent) → pipe.phase ≡ out.Armed → pipe.halted ≡ false → All (LeavesArmed pipe.toggle) events →
+        out_answer (out.after_events pipe events) ≡ answers.Ack }
+    ensures takes { (pipe : OutPipe) (events : List OutEvent) (packet : List ℕ) → pipe.phase ≡ out.Armed → pipe.halted ≡ false → All (LeavesArmed pipe.toggle) events →
+        (out.after_packet (out.after_events pipe events) pipe.toggle packet).phase ≡ out.Landed packet }
+{}
+
 /// The packets of a transfer, joined, are its bytes (5.8.3). Each but the last has exactly the endpoint's size, and the last
 /// has at most so many bytes. It is empty only where the transfer has no bytes, and then it is the only one.
 pub fn packets_of_a_transfer()
@@ -46,13 +55,18 @@ pub fn packets_of_a_transfer()
 {}
 
 /// A packet of the other toggle changes nothing, and an armed pipe acknowledges it (8.6.4). So a packet that comes again with
-/// the toggle of one that landed is held once, whatever the device did between.
+/// the toggle of one that landed is held once, whatever the device did between but for a clear, and however often it came again
+/// in the meantime. A clear sets the pipe back to DATA0, so that it may take the packet a second time.
 pub fn repeated_packet()
     ensures acknowledged { (pipe : OutPipe) → pipe.phase ≡ out.Armed → pipe.halted ≡ false → out_answer pipe ≡ answers.Ack }
     ensures dropped { (pipe : OutPipe) (toggle : Toggle) (packet : List ℕ) → same_toggle toggle pipe.toggle ≡ false → out.after_packet pipe toggle packet ≡ pipe }
     ensures once { (pipe : OutPipe) (packet : List ℕ) (deeds : List OutDeed) (again : List ℕ) → out_answer pipe ≡ answers.Ack →
         out.after_packet (out.after_deeds (out.after_packet pipe pipe.toggle packet) deeds) pipe.toggle again ≡
         out.after_deeds (out.after_packet pipe pipe.toggle packet) deeds }
+    ensures once_in_events { (pipe : OutPipe) (packet : List ℕ) (events : List OutEvent) (again : List ℕ) → out_answer pipe ≡ answers.Ack →
+        All (LeavesToggle (flipped pipe.toggle)) events →
+        out.after_packet (out.after_events (out.after_packet pipe pipe.toggle packet) events) pipe.toggle again ≡
+        out.after_events (out.after_packet pipe pipe.toggle packet) events }
 {}
 
 /// No byte that an OUT pipe acknowledged is lost by a halt or a clear, or by anything else but a drop or a close: what lay at
