@@ -98,14 +98,17 @@ pub fn halt()
         in_answer (inward.after_events size capacity pipe (inward.Does inward.Halts ∷ events)) ≡ answers.Stall }
 {}
 
-/// A clear sets DATA0 and ends the halt (9.4.5). That of an IN pipe takes the bytes of the transfer that runs off the queue,
-/// and leaves nothing ready: what is sent next is the first packet of what was queued behind.
+/// A clear sets DATA0 and ends the halt (9.4.5). That of an IN pipe takes the bytes of the transfer that runs off the queue, and
+/// no others: where none runs, the queue stays. It leaves nothing ready: what is sent next is the first packet of what was
+/// queued behind.
 pub fn clear()
     ensures out_toggle { (pipe : OutPipe) → (out.cleared pipe).toggle ≡ D0 }
     ensures out_halt { (pipe : OutPipe) → (out.cleared pipe).halted ≡ false }
     ensures in_toggle { (pipe : InPipe) → (inward.cleared pipe).toggle ≡ D0 }
     ensures in_halt { (pipe : InPipe) → (inward.cleared pipe).halted ≡ false }
     ensures queue { (pipe : InPipe) (n : ℕ) (left : List (List ℕ)) → pipe.phase ≡ inward.Running n left → (inward.cleared pipe).queue ≡ drop n pipe.queue }
+    ensures queue_at_rest { (pipe : InPipe) → pipe.phase ≡ inward.Rest → (inward.cleared pipe).queue ≡ pipe.queue }
+    ensures queue_posted { (pipe : InPipe) (n : ℕ) → pipe.phase ≡ inward.Posted n → (inward.cleared pipe).queue ≡ pipe.queue }
     ensures rests { (pipe : InPipe) → IsInOpen pipe.phase → (inward.cleared pipe).phase ≡ inward.Rest }
     ensures waits { (size : ℕ) (capacity : ℕ) (pipe : InPipe) (events : List InEvent) → All InRunsNoHandler events →
         is_data (in_answer (inward.after_events size capacity (inward.cleared pipe) events)) ≡ false }
