@@ -7,3 +7,4 @@ pub mod Kept
 pub mod Moves
 pub mod Bounded
 pub mod Armed
+pub mod Writes

@@ -1,5 +1,5 @@
 //! Laws over whole runs of a pipe (USB 2.0, 5.8.3, 8.4.5, 8.6 and 9.4.5). The functions do nothing.
-ghost use Rattle.std.specs.Prelude.{◌≡◌, ◌≤◌, ◌<◌, ℕ, ◌++◌, List, [], ◌∷◌, Bool, true, false, length, take, drop, get_or, Option, Some};
+ghost use Rattle.std.specs.Prelude.{◌≡◌, ◌≤◌, ◌<◌, ℕ, ◌++◌, ◌-◌, List, [], ◌∷◌, Bool, true, false, length, take, drop, get_or, Option, Some};
 ghost use Rattle.std.specs.List.{concat, All};
 ghost use Rattle.usb_packet.specs.declared.bus.Toggle.{Toggle};
 ghost use Rattle.usb_packet.specs.declared.bus.Toggle.TheVariants.{D0};
@@ -150,6 +150,19 @@ pub fn only_a_task_arms()
 pub fn only_a_handler_run_loads()
     ensures { (size : ℕ) (capacity : ℕ) (pipe : InPipe) (events : List InEvent) → pipe.loaded ≡ 0 → All InRunsNoHandler events →
         is_data (in_answer (inward.after_events size capacity pipe events)) ≡ false }
+{}
+
+/// A write queues all its bytes where there is room for them, and else the front that fits, in every phase, halted or not. It
+/// changes nothing else. `capacity` is the most bytes that are queued.
+pub fn writes()
+    ensures all { (capacity : ℕ) (bytes : List ℕ) (pipe : InPipe) → length bytes ≤ capacity - length pipe.queue →
+        inward.written capacity bytes pipe ≡ record pipe { queue = pipe.queue ++ bytes } }
+    ensures front { (capacity : ℕ) (bytes : List ℕ) (pipe : InPipe) →
+        inward.written capacity bytes pipe ≡ record pipe { queue = pipe.queue ++ take (capacity - length pipe.queue) bytes } }
+    ensures full { (capacity : ℕ) (bytes : List ℕ) (pipe : InPipe) → length pipe.queue ≤ capacity → capacity - length pipe.queue ≤ length bytes →
+        length (inward.written capacity bytes pipe).queue ≡ capacity }
+    ensures event { (size : ℕ) (capacity : ℕ) (bytes : List ℕ) (pipe : InPipe) →
+        inward.after_event size capacity pipe (inward.Does (inward.Writes bytes)) ≡ inward.written capacity bytes pipe }
 {}
 
 /// What an IN pipe keeps to in every run: what lies ready are packets of the transfer that runs, two at most; that transfer
