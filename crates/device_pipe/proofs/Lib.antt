@@ -8,3 +8,4 @@ pub mod Moves
 pub mod Bounded
 pub mod Armed
 pub mod Writes
+pub mod Worked

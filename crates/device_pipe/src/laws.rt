@@ -217,6 +217,21 @@ pub fn moves_packets()
         Some n }
 {}
 
+/// What came or was acknowledged is worked off, halted or not. Where no packet of a transfer is left, a handler run ends the
+/// transfer: its bytes leave the queue, and the next task learns of them and takes the note. A handler run moves a packet that
+/// landed, and the next task learns of it and takes the note.
+pub fn halted_or_not()
+    ensures over { (size : ℕ) (capacity : ℕ) (pipe : InPipe) (n : ℕ) → pipe.phase ≡ inward.Running n [] →
+        inward.after_event size capacity pipe (inward.Does inward.Irq) ≡ record pipe { queue = drop n pipe.queue; phase = inward.Posted n } }
+    ensures told { (pipe : InPipe) (n : ℕ) → pipe.phase ≡ inward.Posted n → inward.ended pipe ≡ Some n }
+    ensures noted { (size : ℕ) (capacity : ℕ) (pipe : InPipe) (n : ℕ) → pipe.phase ≡ inward.Posted n →
+        inward.after_event size capacity pipe (inward.Does inward.Task) ≡ record pipe { phase = inward.Rest } }
+    ensures moved { (pipe : OutPipe) (packet : List ℕ) → pipe.phase ≡ out.Landed packet →
+        out.after_event pipe (out.Does out.Irq) ≡ record pipe { held = pipe.held ++ packet; phase = out.Posted } }
+    ensures out_told { (pipe : OutPipe) → pipe.phase ≡ out.Posted → out.came pipe ≡ true }
+    ensures out_noted { (pipe : OutPipe) → pipe.phase ≡ out.Posted → out.after_event pipe (out.Does out.Task) ≡ record pipe { phase = out.Rest } }
+{}
+
 /// A pipe that is closed answers nothing, whatever comes, and holds nothing. Where a packet that was dropped with it still lies in the receive
 /// FIFO, an OUT pipe that is opened takes no packet until a handler run has passed over that one, in however many sessions; from
 /// then on it serves as every other, at DATA0 and with nothing held (9.1.1.5).
