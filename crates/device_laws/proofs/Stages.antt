@@ -1,11 +1,11 @@
 -- The packets of a data stage.
 use Rattle.std.proofs.Common.{◌≡◌, ◌⊎◌, inl, inr, ℕ, zero, suc, ◌+◌, ◌*◌, ◌-◌, ◌≤◌, ◌<◌, ◌++◌, List, length, take, drop, map, min, ap, sym, refl, ◌∙◌, arith, subst}
-use Rattle.std.specs.List.{concat}
+use Rattle.std.specs.List.{concat, AllByRecursion}
 use Rattle.std.proofs.Math.Seq.{take-add}
 use Rattle.std.proofs.lemmas.List.{length-take, length-drop, take_all, drop-drop}
 use Rattle.std.proofs.lemmas.Bool.Decides.{nat_tests}
 use Rattle.device_machine.specs.Packets.{packet_count, packet_at, numbers_from, data_packets}
-use Rattle.device_laws.specs.Stages.{FullButLast, Last, DataStages, HasPacket}
+use Rattle.device_laws.specs.Stages.{FullButLast, Last, DataStages, LongIsNotOne, HasPacket}
 
 next_place : (cut : List ℕ) (i : ℕ) → drop (64 * (i + 1)) cut ≡ drop 64 (drop (64 * i) cut)
 next_place cut i =
@@ -31,6 +31,10 @@ full : (cut : List ℕ) (i n : ℕ) → 64 * (i + n) ≤ length cut + 64 → Ful
 full cut i zero h = tt
 full cut i (suc zero) h = tt
 full cut i (suc (suc n)) h = (omega (arith, size_at cut i), full cut (i + 1) (suc n) (omega arith))
+
+most : (cut : List ℕ) (i n : ℕ) → AllByRecursion (λ packet. length packet ≤ 64) (map (packet_at cut) (numbers_from i n))
+most cut i zero = tt
+most cut i (suc n) = (omega (arith, size_at cut i), most cut (i + 1) n)
 
 last : (cut : List ℕ) (P : List ℕ → Type 0) (i n : ℕ) → ((packet : List ℕ) → 0 < n → length packet ≡ min 64 (length cut - 64 * (i + n - 1)) → P packet) → Last P (map (packet_at cut) (numbers_from i n))
 last cut P i zero h = tt
@@ -106,10 +110,14 @@ stages bytes asked =
     record {
       joined = whole bytes asked;
       full = full cut 0 count (omega (arith, count_least n asked));
+      most = most cut 0 count;
       ended = last cut (λ packet. (length packet < 64) ⊎ (length (concat (data_packets bytes asked)) ≡ asked)) 0 count
           (λ packet some e. ended_by bytes asked packet e);
       none_more = last cut (λ packet. length packet ≡ 0 → length bytes < asked) 0 count (λ packet some e empty. empty_by bytes asked packet some e empty);
     }
+
+pub long_is_not_one : LongIsNotOne
+long_is_not_one bytes asked long is = let most : length bytes ≤ 64 = is.most.0 in omega (arith, most, long)
 
 pub some : HasPacket
 some bytes asked h =

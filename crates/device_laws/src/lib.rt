@@ -7,7 +7,7 @@ ghost use Rattle.usb_descriptor.specs.Set.{Set};
 ghost use Rattle.device_line.specs.declared.line.DevLine.{DevLine};
 ghost use Rattle.device_schedule.specs.Schedule.{answer_to, core_answer, core_state};
 ghost use Rattle.usb_control.specs.Table.{rows};
-ghost use Rattle.device_laws.specs.Stages.{DataStages, HasPacket};
+ghost use Rattle.device_laws.specs.Stages.{DataStages, LongIsNotOne, HasPacket};
 ghost use Rattle.device_laws.specs.Requests.{all_differ, Each, IsDone, Directions};
 ghost use Rattle.device_laws.specs.Examples.{PlainIsRead, Reads, Setups, Addresses, Sessions};
 ghost use Rattle.device_laws.specs.Seen.{AddressIsSeen, SetupIsHeard, OthersAreIgnored, BusyAnswersNak};
@@ -16,11 +16,12 @@ ghost use Rattle.device_laws.specs.Traces.{AreTraces, AreNoTraces, TurnsAreOfThe
 ghost use Rattle.device_laws.specs.LastLine.{LacksAtMostOne};
 
 /// The packets of a data stage for the host: joined they are the data, cut to what the host asks for; each but the last has
-/// 64 bytes; the last is shorter, or the host has all that it asked for; and it is empty only where the host asked for more
-/// than there is (USB 2.0, 8.5.3.2 and 5.5.3).
+/// 64 bytes, and none has more; the last is shorter, or the host has all that it asked for; and it is empty only where the host
+/// asked for more than there is (USB 2.0, 8.5.3.2 and 5.5.3).
 pub fn data_stages()
     ensures packets { DataStages }
     ensures some { HasPacket }
+    ensures long { LongIsNotOne }
 {}
 
 /// The table of requests: no two rows are for one request, a request with a row is done as that row says, and data goes the
