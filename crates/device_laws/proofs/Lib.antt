@@ -10,3 +10,4 @@ pub mod Delivered
 pub mod Ended
 pub mod Traces
 pub mod LastLine
+pub mod Requests

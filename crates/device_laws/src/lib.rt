@@ -8,7 +8,7 @@ ghost use Rattle.device_line.specs.declared.line.DevLine.{DevLine};
 ghost use Rattle.device_schedule.specs.Schedule.{answer_to, core_answer, core_state};
 ghost use Rattle.usb_control.specs.Table.{rows};
 ghost use Rattle.device_laws.specs.Stages.{DataStages, LongIsNotOne, HasPacket};
-ghost use Rattle.device_laws.specs.Requests.{all_differ, Each, IsDone, Directions};
+ghost use Rattle.device_laws.specs.Requests.{all_differ, Each, IsDone, UnnamedAreRefused, Directions};
 ghost use Rattle.device_laws.specs.Examples.{PlainIsRead, Reads, Setups, Addresses, Sessions};
 ghost use Rattle.device_laws.specs.Seen.{AddressIsSeen, SetupIsHeard, OthersAreIgnored, BusyAnswersNak};
 ghost use Rattle.device_laws.specs.Reading.{ReadsAreDelivered, ReadsEnd};
@@ -24,11 +24,13 @@ pub fn data_stages()
     ensures long { LongIsNotOne }
 {}
 
-/// The table of requests: no two rows are for one request, a request with a row is done as that row says, and data goes the
-/// way that bit 7 of bmRequestType says (USB 2.0, 9.3.1).
+/// The table of requests: no two rows are for one request, a request with a row is done as that row says, and one without a row
+/// is refused, but for those of a class to an interface that has an owner, in a session (USB 2.0, 9.2.7). Data goes the way that
+/// bit 7 of bmRequestType says (9.3.1).
 pub fn request_table()
     ensures distinct { all_differ rows ≡ true }
     ensures each { Each IsDone rows }
+    ensures unnamed { UnnamedAreRefused }
     ensures directions { Directions }
 {}
 
