@@ -213,7 +213,7 @@ pub record Reads : Type 0 where
 
 -- SETUPs (8.5.3, 8.5.3.4 and 8.6.1)
 pub record Setups : Type 0 where
-  -- three lie unserved, and the fourth isn't answered until a handler run served them
+  -- three lie unserved, which is this controller's limit, and the fourth isn't answered until a handler run served them
   pub fourth : IsAnswered plain
       (reset ++ (setup 0 get_device, ack) ∷ (setup 0 get_device, ack) ∷ (setup 0 get_device, ack) ∷ (setup 0 get_device, none)
       ∷ (Irq, done) ∷ (setup 0 get_device, ack) ∷ [])

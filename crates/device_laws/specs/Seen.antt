@@ -114,13 +114,14 @@ abbrev pub listens_to : Seen → ℕ → Bool
 listens_to seen addr = listens seen.attention && (addr == seen.address)
 
 -- a SETUP is acknowledged exactly where it is undamaged and the device's, and fewer than three lie unserved, whatever
--- endpoint 0 does (8.5.3)
+-- endpoint 0 does (8.5.3). That limit of three is this controller's
 abbrev pub SetupIsHeard : Type 0
 SetupIsHeard = (set : Set) (lines : List DevLine) (addr : ℕ) (bytes : List ℕ) (ok : Bool)
     → bus_answer (core_state set lines).bus (event.Setup addr bytes ok)
     ≡ (if listens_to (seen_of set lines) addr && (ok && nat_lt (seen_of set lines).unserved 3) then answers.Ack else answers.NoAnswer)
 
--- a packet for no device, or for one that doesn't listen, isn't answered (9.1.1.3)
+-- a packet for no device, or for one that doesn't listen, isn't answered. That a device doesn't listen from a reset until it is
+-- served is this device's rule (9.2.6.2 gives it time to recover)
 pub record IsIgnored (core : Core) (addr : ℕ) : Type 0 where
   pub setup : (bytes : List ℕ) (ok : Bool) → bus_answer core.bus (event.Setup addr bytes ok) ≡ answers.NoAnswer
   pub output : (ep : ℕ) (toggle : Toggle) (packet : List ℕ) (ok : Bool) → bus_answer core.bus (event.Out addr ep toggle packet ok) ≡ answers.NoAnswer

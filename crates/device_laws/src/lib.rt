@@ -25,8 +25,8 @@ pub fn data_stages()
 {}
 
 /// The table of requests: no two rows are for one request, a request with a row is done as that row says, and one without a row
-/// is refused, but for those of a class to an interface that has an owner, in a session (USB 2.0, 9.2.7). Data goes the way that
-/// bit 7 of bmRequestType says (9.3.1).
+/// is refused, but for those of a class to an interface that has an owner, in a session (USB 2.0, 9.2.7). Data goes the way
+/// that bit 7 of bmRequestType says (9.3.1).
 pub fn request_table()
     ensures distinct { all_differ rows ≡ true }
     ensures each { Each IsDone rows }
@@ -51,9 +51,10 @@ pub fn addresses_follow_their_requests()
 {}
 
 /// Over every schedule. A device that isn't addressed, or no handler run of which has served the last reset, or that had none
-/// yet, answers nothing (USB 2.0, 9.1.1.3). An undamaged SETUP to it is acknowledged whatever endpoint 0 does, also where it
-/// stalls, unless three lie unserved; and from then on endpoint 0 answers NAK until a handler run served the SETUP and a task
-/// took it (8.5.3, 8.6.1).
+/// yet, answers nothing. That silence from a reset until it is served is this device's rule; the host leaves the device time to
+/// recover (USB 2.0, 9.2.6.2). An undamaged SETUP to it is acknowledged whatever endpoint 0 does, also where it stalls (8.5.3).
+/// Where three lie unserved the next isn't answered, which is this controller's limit; and from an acknowledged one on endpoint
+/// 0 answers NAK until a handler run served the SETUP and a task took it (8.5.3, 8.6.1).
 pub fn setups_are_heard()
     ensures ignored { OthersAreIgnored }
     ensures setup { SetupIsHeard }

@@ -71,7 +71,7 @@ in_again_end = record {
   learned = 3;
 }
 
--- a transfer whose last packet is full ends with it, and one of no bytes is one empty packet (5.8.3)
+-- a transfer whose last packet is full ends with it, and one of no bytes is one empty packet (5.7.3, 5.8.3)
 abbrev pub in_full : InLink
 in_full = in_example (1 ∷ 2 ∷ []) (Asks Whole ∷ Does Irq ∷ Does Task ∷ Does Starts ∷ Does Irq ∷ Asks Whole ∷ Does Irq ∷ [])
 

@@ -1,4 +1,4 @@
--- One IN pipe of a device, on an endpoint other than 0: USB 2.0, 5.3.2, 5.8.3, 8.4.5, 8.6 and 9.4.5.
+-- One IN pipe of a device, on an endpoint other than 0: USB 2.0, 5.3.2, 5.7.3, 5.8.3, 8.4.5, 8.6 and 9.4.5.
 use Rattle.std.specs.Prelude.{ℕ, zero, suc, ◌-◌, ◌++◌, List, [], ◌∷◌, Bool, true, false, nat_le, length, take, drop, min, Option, Some, None, if◌then◌else◌}
 use Rattle.usb_packet.specs.declared.bus.Toggle.{Toggle}
 use Rattle.usb_packet.specs.declared.bus.Toggle.TheVariants.{D0}
@@ -27,8 +27,8 @@ pub record InPipe : Type 0 where
   -- its endpoint is halted (9.4.5)
   pub halted : Bool
 
--- The packets of a transfer: each has the endpoint's size but the last one, which has the rest (5.8.3). A transfer of no
--- bytes is one empty packet.
+-- The packets of a transfer: each has the endpoint's size but the last one, which has the rest (5.7.3 for interrupt, 5.8.3
+-- for bulk). A transfer of no bytes is one empty packet.
 abbrev pub cut_within : ℕ → ℕ → List ℕ → List (List ℕ)
 cut_within zero size bytes = bytes ∷ []
 cut_within (suc most) size bytes =

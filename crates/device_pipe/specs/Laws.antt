@@ -1,4 +1,4 @@
--- What the laws on pipes speak of: USB 2.0, 5.8.3, 8.4.5, 8.6 and 9.4.5.
+-- What the laws on pipes speak of: USB 2.0, 5.7.3, 5.8.3, 8.4.5, 8.6 and 9.4.5.
 use Rattle.std.specs.Prelude.{◌≡◌, ◌≤◌, ℕ, zero, suc, ◌+◌, ◌++◌, List, [], ◌∷◌, Bool, true, false, ◌&&◌, length, take, drop, if◌then◌else◌, ⊤}
 use Rattle.std.specs.List.{concat}
 use Rattle.usb_packet.specs.declared.bus.Toggle.{Toggle}
@@ -84,8 +84,8 @@ pub record IsBounded (capacity : ℕ) (pipe : InPipe) : Type 0 where
   pub within : running pipe.phase ≤ length pipe.queue
   pub fits : length pipe.queue ≤ capacity
 
--- Packets that a transfer of one or more bytes may have (5.8.3): each but the last has exactly the endpoint's size, and
--- the last has at most so many bytes and isn't empty
+-- Packets that a transfer of one or more bytes may have (5.7.3 for interrupt, 5.8.3 for bulk): each but the last has exactly
+-- the endpoint's size, and the last has at most so many bytes and isn't empty
 abbrev pub AreFullBefore : ℕ → List ℕ → List (List ℕ) → Type 0
 AreFullBefore size packet [] = (1 ≤ length packet) × (length packet ≤ size)
 AreFullBefore size packet (next ∷ packets) = (length packet ≡ size) × AreFullBefore size next packets

@@ -1,4 +1,5 @@
-//! Laws over whole runs of a pipe (USB 2.0, 5.8.3, 8.4.5, 8.6 and 9.4.5). The functions do nothing.
+//! Laws over whole runs of a pipe (USB 2.0, 5.7.3 for interrupt and 5.8.3 for bulk, 8.4.5, 8.6 and 9.4.5). The functions do
+//! nothing.
 ghost use Rattle.std.specs.Prelude.{◌≡◌, ◌≤◌, ◌<◌, ℕ, ◌++◌, ◌-◌, List, [], ◌∷◌, Bool, true, false, length, take, drop, get_or, Option, Some};
 ghost use Rattle.std.specs.List.{concat, All};
 ghost use Rattle.usb_packet.specs.declared.bus.Toggle.{Toggle};
@@ -15,16 +16,17 @@ ghost use Rattle.device_pipe.specs.Laws.{IsTakenOnce, IsKeptOnce, IsBounded, Are
 ghost use Rattle.device_pipe.specs.OutExamples.{out_successful, out_successful_end, out_not_accepted, out_not_accepted_end, out_unheard, out_unheard_end, out_again, out_again_end};
 ghost use Rattle.device_pipe.specs.InExamples.{in_successful, in_successful_end, in_lost, in_lost_end, in_unheard, in_unheard_end, in_again, in_again_end, in_full, in_full_end};
 
-/// OUT, exactly once and in order: whatever is lost on the way, what the class read, what is held and what landed are the
-/// packets that the host moved on from, and, exactly where the toggles differ, its front packet behind them (8.6.4). The
-/// class learned of each of them once.
+/// OUT, exactly once and in order, in runs without a clear, a drop or a close: whatever is lost on the way, what the class
+/// read, what is held and what landed are the packets that the host moved on from, and, exactly where the toggles differ, its
+/// front packet behind them (8.6.4). The class learned once of each packet whose handler run and task came, which is each of
+/// them but for one that landed or whose note no task has taken.
 pub fn out_exactly_once()
     ensures { (pipe : OutPipe) (given : List (List ℕ)) (steps : List OutStep) → IsTakenOnce given (out_run (out_start pipe given) steps) }
 {}
 
-/// IN, exactly once and in order: whatever is lost on the way, the packets that the host kept are those of the transfers
-/// that started, but for the ones left of the transfer that runs, of which the front one was kept exactly where the toggles
-/// differ (8.6.4). Joined they are the front of what the class queued.
+/// IN, exactly once and in order, in runs without a clear, a drop or a close: whatever is lost on the way, the packets that the
+/// host kept are those of the transfers that started, but for the ones left of the transfer that runs, of which the front one
+/// was kept exactly where the toggles differ (8.6.4). Joined they are the front of what the class queued.
 pub fn in_exactly_once()
     ensures { (size : ℕ) (capacity : ℕ) (steps : List InStep) → IsKeptOnce capacity (in_run size capacity in_start steps) }
 {}
@@ -45,8 +47,9 @@ pub fn stays_armed()
         (out.after_packet (out.after_events pipe events) pipe.toggle packet).phase ≡ out.Landed packet }
 {}
 
-/// The packets of a transfer, joined, are its bytes (5.8.3). Each but the last has exactly the endpoint's size, and the last
-/// has at most so many bytes. It is empty only where the transfer has no bytes, and then it is the only one.
+/// The packets of a transfer, joined, are its bytes (5.7.3 for interrupt, 5.8.3 for bulk). Each but the last has exactly the
+/// endpoint's size, and the last has at most so many bytes. It is empty only where the transfer has no bytes, and then it is
+/// the only one.
 pub fn packets_of_a_transfer()
     ensures joined { (size : ℕ) (bytes : List ℕ) → concat (cut size bytes) ≡ bytes }
     ensures sizes { (size : ℕ) (bytes : List ℕ) → 1 ≤ size → 1 ≤ length bytes → AreFull size (cut size bytes) }
@@ -69,9 +72,10 @@ pub fn repeated_packet()
         out.after_events (out.after_packet pipe pipe.toggle packet) events }
 {}
 
-/// No byte that an OUT pipe acknowledged is lost by a halt or a clear, or by anything else but a drop or a close: what lay at
-/// the device and what was acknowledged with the pipe's toggle, in order, is what was read and what lies at the device then.
-/// A halt of an IN pipe leaves its queue, its transfer and what lies ready.
+/// No byte that an OUT pipe took is lost by a halt or a clear, or by anything else but a drop or a close: what lay at the
+/// device and what was acknowledged with the pipe's toggle, in order, is what was read and what lies at the device then. Only
+/// the bytes of packets with the pipe's toggle count: one of the other toggle is acknowledged and dropped (8.6.4). A halt of an
+/// IN pipe leaves its queue, its transfer and what lies ready.
 pub fn nothing_lost()
     ensures run { (pipe : OutPipe) (events : List OutEvent) → All DropsNothing events →
         pipe.held ++ landed pipe.phase ++ took pipe events ≡
@@ -86,8 +90,8 @@ pub fn nothing_lost()
     ensures in_queue_at_halt { (pipe : InPipe) → (inward.halted_ pipe).queue ≡ pipe.queue }
 {}
 
-/// A halt halts a pipe, and leaves its toggle (9.4.9). From then on an open pipe answers STALL until a clear, whatever comes between
-/// (8.4.5, 9.4.5).
+/// A halt halts a pipe, and leaves its toggle (9.4.9). From then on an open pipe answers STALL until a clear, whatever comes
+/// between (8.4.5, 9.4.5).
 pub fn halt()
     ensures out_halt { (pipe : OutPipe) → (out.halted_ pipe).halted ≡ true }
     ensures in_halt { (pipe : InPipe) → (inward.halted_ pipe).halted ≡ true }
@@ -98,8 +102,8 @@ pub fn halt()
         in_answer (inward.after_events size capacity pipe (inward.Does inward.Halts ∷ events)) ≡ answers.Stall }
 {}
 
-/// A clear sets DATA0 and ends the halt (9.4.5). That of an IN pipe takes the bytes of the transfer that runs off the queue, and
-/// no others: where none runs, the queue stays. It leaves nothing ready: what is sent next is the first packet of what was
+/// A clear sets DATA0 and ends the halt (9.4.5). That of an IN pipe takes the bytes of the transfer that runs off the queue,
+/// and no others: where none runs, the queue stays. It leaves nothing ready: what is sent next is the first packet of what was
 /// queued behind.
 pub fn clear()
     ensures out_toggle { (pipe : OutPipe) → (out.cleared pipe).toggle ≡ D0 }
@@ -121,8 +125,9 @@ pub fn clear()
 {}
 
 /// Where a pipe answers NAK, STALL or nothing, the packet or the token changes nothing; nor does a token whose packet isn't
-/// acknowledged. An open pipe that takes or sends none answers NAK. A halted pipe answers STALL to every packet and token until its halt is cleared, so it takes none and sends
-/// none (8.4.5, 9.4.5).
+/// acknowledged. An open pipe that takes or sends none answers NAK: a packet on a pipe that isn't armed gets it before its
+/// toggle is looked at, as this controller does. A halted pipe answers STALL to every packet and token until its halt is
+/// cleared, so it takes none and sends none (8.4.5, 9.4.5).
 pub fn refused()
     ensures out_packet { (pipe : OutPipe) (toggle : Toggle) (packet : List ℕ) → is_ack (out_answer pipe) ≡ false → out.after_packet pipe toggle packet ≡ pipe }
     ensures in_token { (pipe : InPipe) (ok : Bool) → is_data (in_answer pipe) ≡ false → inward.after_token pipe ok ≡ pipe }
@@ -136,7 +141,8 @@ pub fn refused()
 {}
 
 /// After a packet landed no other is acknowledged until a task arms the pipe: each gets NAK, or STALL where the endpoint was
-/// halted. No task arms a pipe that is halted.
+/// halted. That holds of the packet that landed too, where it comes again: this controller gives NAK before it looks at the
+/// toggle. No task arms a pipe that is halted.
 pub fn only_a_task_arms()
     ensures refused { (pipe : OutPipe) (packet : List ℕ) (events : List OutEvent) → out_answer pipe ≡ answers.Ack → All ArmsNothing events →
         is_ack (out_answer (out.after_events (out.after_packet pipe pipe.toggle packet) events)) ≡ false }
@@ -232,9 +238,9 @@ pub fn halted_or_not()
     ensures out_noted { (pipe : OutPipe) → pipe.phase ≡ out.Posted → out.after_event pipe (out.Does out.Task) ≡ record pipe { phase = out.Rest } }
 {}
 
-/// A pipe that is closed answers nothing, whatever comes, and holds nothing. Where a packet that was dropped with it still lies in the receive
-/// FIFO, an OUT pipe that is opened takes no packet until a handler run has passed over that one, in however many sessions; from
-/// then on it serves as every other, at DATA0 and with nothing held (9.1.1.5).
+/// A pipe that is closed answers nothing, whatever comes, and holds nothing. Where a packet that was dropped with it still lies
+/// in the receive FIFO, an OUT pipe that is opened takes no packet until a handler run has passed over that one, in however
+/// many sessions; from then on it serves as every other, at DATA0 and with nothing held (9.1.1.5).
 pub fn opened_and_closed()
     ensures silent { (pipe : OutPipe) (events : List OutEvent) → out_answer (out.after_events (out.closed pipe) events) ≡ answers.NoAnswer }
     ensures in_silent { (size : ℕ) (capacity : ℕ) (events : List InEvent) → in_answer (inward.after_events size capacity inward.closed events) ≡ answers.NoAnswer }
@@ -264,7 +270,8 @@ pub fn out_examples()
 {}
 
 /// An IN pipe in the standard's pictures: two successful transactions (8.6.2), data that is lost (8.6.3), an acknowledgement
-/// that is lost (8.6.4), and transfers of one full packet and of no bytes (5.8.3).
+/// that is lost (8.6.4), and transfers of one full packet and of no bytes
+/// (5.7.3, 5.8.3).
 pub fn in_examples()
     ensures successful { in_successful ≡ in_successful_end }
     ensures lost { in_lost ≡ in_lost_end }
