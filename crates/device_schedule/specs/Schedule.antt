@@ -53,9 +53,17 @@ core_after set core Irq = after_irq core
 core_after set core Task = after_task set core
 core_after set core (Call call) = core
 
--- the machine of each owner, over the set of descriptors
+-- the core's machine, over the set of descriptors
+abbrev pub core_machine : Set → Machine
+core_machine set = record { State = Core; first = start; answer = core_answer; after = core_after set }
+
+-- the machine of each owner. No class is driven yet: none has a line, and the core's machine stands for each
 abbrev pub machine : Set → declared.Owner → Machine
-machine set owner.Core = record { State = Core; first = start; answer = core_answer; after = core_after set }
+machine set owner.Core = core_machine set
+machine set owner.Cdc = core_machine set
+machine set owner.Hid = core_machine set
+machine set owner.Msc = core_machine set
+machine set owner.Midi = core_machine set
 
 -- the owner of a SETUP that a task takes, where it takes one: that of the interface or the endpoint that it names, and
 -- else the core (USB 2.0, 9.3)

@@ -83,9 +83,9 @@ abbrev pub given : Option (List ℕ) → Choice
 given None = stalled
 given (Some bytes) = gives bytes
 
--- the descriptors that the class of an interface has: the core has none
+-- the descriptors that the class of an interface has: the core has none, and no class is driven yet
 abbrev pub class_descriptor : declared.Owner → Choice
-class_descriptor owner.Core = stalled
+class_descriptor o = stalled
 
 -- ENDPOINT_HALT of endpoint 0 isn't changed
 abbrev pub unless_zero : Setup → Effect → Effect

@@ -1,3 +1,4 @@
+pub mod Owners
 pub mod Rules
 pub mod Verdict
 pub mod Set

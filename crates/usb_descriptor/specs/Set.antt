@@ -1,9 +1,9 @@
 -- What an accepted set shows: its bytes, and its interfaces and endpoints with their owners.
-use Rattle.std.specs.Prelude.{◌≡◌, is_some, ℕ, List, Bool, true, ◌==◌, ◌&&◌, ◌||◌, position, Option, Some, None, if◌then◌else◌, map, filter, find}
+use Rattle.std.specs.Prelude.{◌≡◌, is_some, ℕ, List, Bool, true, false, ◌==◌, ◌&&◌, ◌||◌, position, Option, Some, None, if◌then◌else◌, map, filter, find}
 use Rattle.std.specs.List.{list_any}
 use Rattle.std.specs.Option.{option_map}
 use Rattle.usb_packet.specs.declared.bus.Owner.{Owner}
-use Rattle.usb_packet.specs.declared.bus.Owner.TheVariants.{Core}
+use Rattle.usb_packet.specs.declared.bus.Owner.TheVariants.{Core, Cdc, Hid, Msc, Midi}
 use Rattle.descriptor_row.specs.declared.descriptor.Descriptor.{Descriptor}
 use Rattle.usb_descriptor.specs.declared.endpoint.EpKind.{EpKind}
 use Rattle.usb_descriptor.specs.declared.endpoint.EpKind.TheVariants.{Bulk, Interrupt}
@@ -79,9 +79,15 @@ has_endpoint config n a = list_any (is_endpoint_at a) (interface_row n (left_of 
 
 abbrev pub is_core : Owner → Bool
 is_core Core = true
+is_core o = false
 
 abbrev pub same_owner : Owner → Owner → Bool
 same_owner Core Core = true
+same_owner Cdc Cdc = true
+same_owner Hid Hid = true
+same_owner Msc Msc = true
+same_owner Midi Midi = true
+same_owner a b = false
 
 abbrev pub belongs : Owner → Interface → Bool
 belongs owner i = same_owner i.owner owner

@@ -164,9 +164,7 @@ pub fn any_addressed(row: &[Descriptor], addr: u8) -> bool
 pub fn is_core(owner: Owner) -> bool
     ensures { result ≡ is_core owner }
 {
-    match owner {
-        Owner::Core => true,
-    }
+    matches!(owner, Owner::Core)
 }
 
 /// Whether two owners are the same.
@@ -174,7 +172,12 @@ fn same_owner(a: Owner, b: Owner) -> bool
     ensures { result ≡ same_owner a b }
 {
     match (a, b) {
-        (Owner::Core, Owner::Core) => true,
+        (Owner::Core, Owner::Core)
+        | (Owner::Cdc, Owner::Cdc)
+        | (Owner::Hid, Owner::Hid)
+        | (Owner::Msc, Owner::Msc)
+        | (Owner::Midi, Owner::Midi) => true,
+        _ => false,
     }
 }
 

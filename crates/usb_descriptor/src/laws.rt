@@ -1,7 +1,8 @@
-//! What an accepted set promises to a controller's driver. The functions only look at bytes.
+//! What an accepted set promises to a controller's driver, and that owners differ. The functions only look at bytes.
 ghost use Rattle.std.specs.Prelude.{ℕ, ◌^◌, ◌<◌, slice_index};
 ghost use Rattle.usb_descriptor.specs.Set.{IsAccepted, endpoints_of};
 ghost use Rattle.usb_descriptor.specs.Served.{AreServed};
+ghost use Rattle.usb_descriptor.specs.Owners.{AreToldApart};
 
 use crate::limits::EpLimits;
 use crate::set::DescSet;
@@ -22,6 +23,11 @@ pub fn acceptance_serves(set: &DescSet)
 {
     bytes_are_small(set.config());
 }
+
+/// An interface belongs to one owner: no class passes for another one or for the core.
+pub fn owners_are_told_apart()
+    ensures { AreToldApart }
+{}
 
 /// A byte has eight bits.
 #[allow(unused_variables)]

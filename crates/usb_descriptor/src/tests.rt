@@ -406,6 +406,10 @@ fn accepted(rt: HostRuntime) {
         assert_eq!(rt; endpoint.owner, Owner::Core);
     }
     assert!(rt; set.has(Owner::Core));
+    for class in [Owner::Cdc, Owner::Hid, Owner::Msc, Owner::Midi] {
+        assert!(rt; !set.has(class));
+        assert_eq!(rt; set.interface_of(class), None);
+    }
     assert!(rt; set.is_interface(2) && !set.is_interface(3));
     assert!(rt;
         set.has_endpoint(0, 0x81) && set.has_endpoint(1, 0x82) && set.has_endpoint(2, 0x02)

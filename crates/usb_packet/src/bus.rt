@@ -11,7 +11,16 @@ pub enum Toggle {
 /// belongs to.
 #[derive(Clone, Copy, Debug, PartialEq, Eq)]
 pub enum Owner {
+    /// Endpoint 0, and all that no class has.
     Core,
+    /// A serial port (CDC 1.2, PSTN 1.2).
+    Cdc,
+    /// A keyboard, a mouse or another device of reports (HID 1.11).
+    Hid,
+    /// A disk (Mass Storage Bulk-Only 1.0).
+    Msc,
+    /// Music events (MIDI Devices 1.0).
+    Midi,
 }
 
 /// What the host does on the bus of a device.

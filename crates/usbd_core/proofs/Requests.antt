@@ -32,10 +32,14 @@ near_given None = tt
 near_given (Some bytes) = tt
 
 near_descriptor : (o : declared.Owner) → IsNear (class_descriptor o)
-near_descriptor owner.Core = tt
+near_descriptor o = tt
 
 near_handed : (o : declared.Owner) → IsNear (handed o)
 near_handed owner.Core = tt
+near_handed owner.Cdc = tt
+near_handed owner.Hid = tt
+near_handed owner.Msc = tt
+near_handed owner.Midi = tt
 
 near_halt : (zero : Bool) (a : ℕ) → IsNear (status (if zero then effect.None else effect.Halt a))
 near_halt true a = tt
