@@ -1,3 +1,3 @@
-pub mod Copies
+pub mod Overwrites
 pub mod Window
 pub mod Words

@@ -1,7 +1,7 @@
 // The bytes of a ring in a row of slots, which is used around its end: nothing is moved when bytes leave.
 ghost use Rattle.std.specs.Prelude.{◌≡◌, ℕ, ◌+◌, ◌-◌, ◌*◌, ◌^◌, ◌<◌, ◌≤◌, List, [], ◌∷◌, ◌++◌, length, take, drop, min, slice_index, IfOk};
 ghost use Rattle.usb_ring.specs.Ring.{Ring, room, appended, without_first, peeked, low_bytes};
-ghost use Rattle.usb_ring.specs.Slots.{around};
+ghost use Rattle.usb_ring.specs.Slots.{held, around, overwritten, overwritten_around};
 
 use std::alloc::{AllocError, Global};
 use std::marker::Model;
@@ -42,6 +42,36 @@ fn around_end(place: usize, capacity: usize) -> usize
     }
 }
 
+// Puts the bytes into the slots from one on.
+fn overwrite(slots: &mut [u8], at: usize, bytes: &[u8])
+    requires { at + length bytes.now ≤ length slots.old }
+    ensures { slots.new ≡ overwritten slots.old at bytes.now }
+{
+    slots[at..at + bytes.len()].copy_from_slice(bytes);
+}
+
+// Puts the bytes into the slots from one on, and past the last slot from the first on.
+fn write_around(slots: &mut [u8], at: usize, bytes: &[u8])
+    requires inside { at < length slots.old }
+    requires room { length bytes.now ≤ length slots.old }
+    ensures { slots.new ≡ overwritten_around slots.old at bytes.now }
+{
+    let (front, back) = bytes.split_at(bytes.len().min(slots.len() - at));
+    overwrite(slots, at, front);
+    overwrite(slots, 0, back);
+}
+
+// Copies what stands in the slots from one on, and past the last slot from the first on, into the whole of `buf`.
+fn read_around(slots: &[u8], at: usize, buf: &mut [u8])
+    requires inside { at < length slots.now }
+    requires enough { length buf.old ≤ length slots.now }
+    ensures { buf.new ≡ held at (length buf.old) slots.now }
+{
+    let (front, back) = buf.split_at_mut(buf.len().min(slots.len() - at));
+    front.copy_from_slice(&slots[at..at + front.len()]);
+    back.copy_from_slice(&slots[..back.len()]);
+}
+
 impl ByteRing {
     /// An empty ring with room for 2^log2 bytes.
     pub fn new(alloc: Global, log2: u8) -> Result<ByteRing, AllocError>
@@ -72,31 +102,14 @@ impl ByteRing {
         self.slots.len() - self.len
     }
 
-    /// Byte `at` of those held, the oldest being byte 0.
-    fn byte_at(&self, at: usize) -> u8
-        requires { at < length self.now.bytes }
-        ensures { result ≡ slice_index self.now.bytes at }
-    {
-        self.slots[around_end(self.oldest + at, self.slots.len())]
-    }
-
-    fn append_byte(&mut self, byte: u8)
-        requires { length self.old.bytes < self.old.capacity }
-        ensures { self.new ≡ appended self.old (byte ∷ []) }
-    {
-        let end = around_end(self.oldest + self.len, self.slots.len());
-        self.slots[end] = byte;
-        self.len += 1;
-    }
-
     /// Appends the bytes, for which there must be room.
     pub fn append(&mut self, bytes: &[u8])
         requires { length self.old.bytes + length bytes.now ≤ self.old.capacity }
         ensures { self.new ≡ appended self.old bytes.now }
     {
-        for byte in bytes {
-            self.append_byte(*byte);
-        }
+        let end = around_end(self.oldest + self.len, self.slots.len());
+        write_around(&mut self.slots, end, bytes);
+        self.len += bytes.len();
     }
 
     /// Copies the bytes from `at` on into the whole of `buf`; they must be there.
@@ -104,11 +117,11 @@ impl ByteRing {
         requires { at + length buf.old ≤ length self.now.bytes }
         ensures { buf.new ≡ take (length buf.old) (drop at self.now.bytes) }
     {
-        // What `len` says of its size keeps the place below in range.
-        let _held = self.len();
-        for (i, byte) in buf.iter_mut().enumerate() {
-            *byte = self.byte_at(at + i);
-        }
+        read_around(
+            &self.slots,
+            around_end(self.oldest + at, self.slots.len()),
+            buf,
+        );
     }
 
     /// Copies the oldest bytes into the front of `buf`, as many as there are and as it takes, and tells how many.

@@ -68,8 +68,10 @@ impl TxRing {
         self.ring.free() as u16
     }
 
-    fn number_at(&self, at: u16, n: u8) -> u32
-        requires counted { n ≤ 4 }
+    /// The n bytes from `at` on as a word, the lowest byte first and filled with 0; n is 1 to 4, and the bytes must be
+    /// there. The ring keeps them.
+    pub fn peek_word(&self, at: u16, n: u8) -> u32
+        requires counted { (1 ≤ n) × (n ≤ 4) }
         requires there { at + n ≤ length self.now.bytes }
         ensures { result ≡ peeked self.now at n }
     {
@@ -105,7 +107,7 @@ impl TxHandler<'_> {
         requires there { at + n ≤ length (tx_handler_ring self.now).bytes }
         ensures { result ≡ peeked (tx_handler_ring self.now) at n }
     {
-        self.ring.number_at(at, n)
+        self.ring.peek_word(at, n)
     }
 
     /// Drops the n oldest bytes, which must be there.

@@ -1,12 +1,16 @@
-use Rattle.std.proofs.Common.{◌<◌, ℕ, List, drop, length, set, ap, ◌∙◌, sym, get_or-drop, length-drop, arith}
-use Rattle.usb_ring.proofs.Copies.{copied_more}
+use Rattle.std.proofs.Common.{◌≤◌, ◌+◌, ap, length, drop, take, ◌∙◌, arith, vec_len}
+use Rattle.usb_ring.specs.Ring.{Ring}
+use Rattle.usb_ring.proofs.Window.{length-held, held_part}
 use Rattle.usb_ring.proofs.storage.ByteRing.copy_from.Goals as goal
 
-pub loop-i-preserved : goal.loop-i-preserved
-loop-i-preserved c =
-    let from = drop c.args.at c.args.self.now.bytes in
-    let i = c.loop-i.i in
-    let there : i < length from = omega (arith, length-drop c.args.at c.args.self.now.bytes) in
-    let room : i < length c.args.buf.now = omega arith in
-    ap (λ (buf : List ℕ). set buf i c.byte_at.result) c.loop-i.invariant
-    ∙ copied_more from c.args.buf.now i c.byte_at.result there room (c.byte_at.ensures ∙ sym (get_or-drop c.args.at c.args.self.now.bytes i 0))
+-- the slots from the place on, around the end, are a part of those held
+pub returns : goal.returns
+returns c =
+    let q = c.self.inside in
+    let capacity = vec_len q.slots in
+    let n = length c.args.buf.now in
+    let length_before = length-held q.slots.items capacity q.oldest q.len c.self.invariant in
+    let bytes_before = ap (λ (ring : Ring). length ring.bytes) c.self.view_is in
+    let inside : c.args.at + n ≤ q.len = omega arith in
+    c.read_around.ensures ∙ rw (c.around_end.ensures, c.len.ensures, c.deref.ensures.value) (held_part q.slots.items capacity q.oldest q.len c.self.invariant c.args.at n inside
+    ∙ ap (λ (ring : Ring). take n (drop c.args.at ring.bytes)) c.self.view_is)
