@@ -1,0 +1,5 @@
+pub mod Examples
+pub mod Laws
+pub mod Rings
+pub mod Sizes
+pub mod Slots
