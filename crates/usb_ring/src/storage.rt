@@ -43,6 +43,7 @@ fn around_end(place: usize, capacity: usize) -> usize
 }
 
 // Puts the bytes into the slots from one on.
+#[inline(always)]
 fn overwrite(slots: &mut [u8], at: usize, bytes: &[u8])
     requires { at + length bytes.now ≤ length slots.old }
     ensures { slots.new ≡ overwritten slots.old at bytes.now }
@@ -51,25 +52,38 @@ fn overwrite(slots: &mut [u8], at: usize, bytes: &[u8])
 }
 
 // Puts the bytes into the slots from one on, and past the last slot from the first on.
+#[tactic(auto, using(crate::proofs::Overwrites::all_before))]
+#[inline(always)]
 fn write_around(slots: &mut [u8], at: usize, bytes: &[u8])
     requires inside { at < length slots.old }
     requires room { length bytes.now ≤ length slots.old }
     ensures { slots.new ≡ overwritten_around slots.old at bytes.now }
 {
-    let (front, back) = bytes.split_at(bytes.len().min(slots.len() - at));
-    overwrite(slots, at, front);
-    overwrite(slots, 0, back);
+    let before_end = slots.len() - at;
+    if bytes.len() <= before_end {
+        overwrite(slots, at, bytes);
+    } else {
+        let (front, back) = bytes.split_at(before_end);
+        overwrite(slots, at, front);
+        overwrite(slots, 0, back);
+    }
 }
 
 // Copies what stands in the slots from one on, and past the last slot from the first on, into the whole of `buf`.
+#[inline(always)]
 fn read_around(slots: &[u8], at: usize, buf: &mut [u8])
     requires inside { at < length slots.now }
     requires enough { length buf.old ≤ length slots.now }
     ensures { buf.new ≡ held at (length buf.old) slots.now }
 {
-    let (front, back) = buf.split_at_mut(buf.len().min(slots.len() - at));
-    front.copy_from_slice(&slots[at..at + front.len()]);
-    back.copy_from_slice(&slots[..back.len()]);
+    let before_end = slots.len() - at;
+    if buf.len() <= before_end {
+        buf.copy_from_slice(&slots[at..at + buf.len()]);
+    } else {
+        let (front, back) = buf.split_at_mut(before_end);
+        front.copy_from_slice(&slots[at..]);
+        back.copy_from_slice(&slots[..back.len()]);
+    }
 }
 
 impl ByteRing {
@@ -103,6 +117,7 @@ impl ByteRing {
     }
 
     /// Appends the bytes, for which there must be room.
+    #[inline(always)]
     pub fn append(&mut self, bytes: &[u8])
         requires { length self.old.bytes + length bytes.now ≤ self.old.capacity }
         ensures { self.new ≡ appended self.old bytes.now }
@@ -113,6 +128,7 @@ impl ByteRing {
     }
 
     /// Copies the bytes from `at` on into the whole of `buf`; they must be there.
+    #[inline(always)]
     pub fn copy_from(&self, at: usize, buf: &mut [u8])
         requires { at + length buf.old ≤ length self.now.bytes }
         ensures { buf.new ≡ take (length buf.old) (drop at self.now.bytes) }
@@ -141,6 +157,29 @@ impl ByteRing {
         requires there { at + n ≤ length self.now.bytes }
         ensures { result ≡ peeked self.now at n }
     {
+        if n == 4 {
+            self.four_at(at)
+        } else {
+            self.few_at(at, n)
+        }
+    }
+
+    /// Four bytes, which are most of all words, in one step.
+    #[inline(always)]
+    fn four_at(&self, at: usize) -> u32
+        requires { at + 4 ≤ length self.now.bytes }
+        ensures { result ≡ peeked self.now at 4 }
+    {
+        let mut bytes = [0u8; 4];
+        self.copy_from(at, &mut bytes);
+        u32::from_le_bytes(bytes)
+    }
+
+    fn few_at(&self, at: usize, n: usize) -> u32
+        requires counted { n ≤ 4 }
+        requires there { at + n ≤ length self.now.bytes }
+        ensures { result ≡ peeked self.now at n }
+    {
         let mut bytes = [0u8; 4];
         self.copy_from(at, &mut bytes[..n]);
         u32::from_le_bytes(bytes)
@@ -159,6 +198,27 @@ impl ByteRing {
 
     /// Appends the n lowest bytes of the word, the lowest first; there must be room for them.
     pub fn append_low(&mut self, word: u32, n: usize)
+        requires counted { n ≤ 4 }
+        requires room { length self.old.bytes + n ≤ self.old.capacity }
+        ensures { self.new ≡ appended self.old (low_bytes n word) }
+    {
+        if n == 4 {
+            self.append_four(word);
+        } else {
+            self.append_few(word, n);
+        }
+    }
+
+    /// A whole word in one step.
+    #[inline(always)]
+    fn append_four(&mut self, word: u32)
+        requires { length self.old.bytes + 4 ≤ self.old.capacity }
+        ensures { self.new ≡ appended self.old (low_bytes 4 word) }
+    {
+        self.append(&word.to_le_bytes());
+    }
+
+    fn append_few(&mut self, word: u32, n: usize)
         requires counted { n ≤ 4 }
         requires room { length self.old.bytes + n ≤ self.old.capacity }
         ensures { self.new ≡ appended self.old (low_bytes n word) }

@@ -1,7 +1,7 @@
 use Rattle.std.proofs.Common.{List, ℕ, take, ap, ◌∙◌}
 use Rattle.usb_ring.specs.Ring.{Ring, appended}
 use Rattle.usb_ring.proofs.Words.{take-to_le_bytes}
-use Rattle.usb_ring.proofs.storage.ByteRing.append_low.Goals as goal
+use Rattle.usb_ring.proofs.storage.ByteRing.append_few.Goals as goal
 
 pub returns : goal.returns
 returns c =
