@@ -1,4 +1,4 @@
-ghost use Rattle.std.specs.Prelude.{◌≡◌, ℕ, ◌+◌, ◌<◌, ◌≤◌, ◌↔◌, List, [], ◌∷◌, ◌++◌, ◌≢◌, length, take, IsTrue};
+ghost use Rattle.std.specs.Prelude.{◌≡◌, ◌+◌, ◌≤◌, ◌↔◌, [], ◌≢◌, length, take, IsTrue};
 ghost use Rattle.dwc2_fifo.specs.Words.{words_of, word_count, bytes_in};
 ghost use Rattle.dwc2_fifo.specs.Rx.{Rx, room_of, IsEmpty, pushed, first_status, popped, first_word, word_taken, empty_of};
 
@@ -10,19 +10,27 @@ use std::marker::Model;
 #[derive(Drop)]
 pub struct RxFifo {
     slots: SlotRing,
+    left: u16,
     depth: u16,
 }
 
 impl Model for RxFifo {
-    ghost use Rattle.std.specs.Prelude.{ℕ, ◌≤◌, length};
     ghost use Rattle.dwc2_fifo.specs.Rx.{Rx};
-    ghost use Rattle.dwc2_fifo.specs.Row.{rx_of};
+    ghost use Rattle.dwc2_fifo.specs.Row.{rx_of, IsFifo};
 
     ghost Value = { Rx };
 
-    ghost view = { λ f. rx_of f.slots f.depth };
+    ghost view = { λ f. rx_of f.slots f.left f.depth };
 
-    ghost invariant = { λ f. (length f.slots ≤ f.depth) × (f.depth ≤ 1024) };
+    ghost invariant = { λ f. IsFifo f.slots f.left f.depth };
+}
+
+// How many words these bytes take.
+fn words(bytes: &[u8]) -> u16
+    requires { word_count (length bytes.now) ≤ 1024 }
+    ensures { result ≡ word_count (length bytes.now) }
+{
+    bytes.len().div_ceil(4) as u16
 }
 
 impl RxFifo {
@@ -32,6 +40,7 @@ impl RxFifo {
     {
         RxFifo {
             slots: SlotRing::new(),
+            left: 0,
             depth: 0,
         }
     }
@@ -43,6 +52,7 @@ impl RxFifo {
         ensures { self.new ≡ record self.old { depth = words } }
     {
         self.slots.clear();
+        self.left = 0;
         self.depth = words;
     }
 
@@ -57,7 +67,7 @@ impl RxFifo {
     pub fn is_ready(&self) -> bool
         ensures { IsTrue result ↔ ((self.now.left ≡ []) × (self.now.entries ≢ [])) }
     {
-        self.slots.starts_entry()
+        self.left == 0 && self.slots.len() != 0
     }
 
     /// Appends an entry: the status word and the words of the bytes. There must be place for them.
@@ -66,7 +76,10 @@ impl RxFifo {
         ensures pushed { self.new ≡ pushed self.old (record { status = status; words = words_of bytes.now }) }
         ensures undone { take (length bytes.now) (bytes_in (words_of bytes.now)) ≡ bytes.now }
     {
-        self.slots.push(Slot::Status(status));
+        self.slots.push(Slot {
+            word: status,
+            behind: words(bytes),
+        });
         self.slots.push_words(bytes);
     }
 
@@ -74,7 +87,10 @@ impl RxFifo {
     pub fn peek_status(&self) -> u32
         ensures { result ≡ first_status self.now.entries }
     {
-        self.slots.front_status()
+        match self.slots.get(self.left as usize) {
+            Some(slot) => slot.word,
+            None => 0,
+        }
     }
 
     /// Pops the first entry: its status. Its words can then be read, and what is left of the entry popped before is
@@ -83,7 +99,15 @@ impl RxFifo {
         ensures status { result ≡ first_status self.old.entries }
         ensures popped { self.new ≡ popped self.old }
     {
-        self.slots.pop_status()
+        let place = self.left as usize;
+        match self.slots.get(place) {
+            Some(slot) => {
+                self.slots.skip(place + 1);
+                self.left = slot.behind;
+                slot.word
+            }
+            None => 0,
+        }
     }
 
     /// Takes the next word of the popped entry; 0 where none is left, and nothing changes.
@@ -91,7 +115,15 @@ impl RxFifo {
         ensures word { result ≡ first_word self.old.left }
         ensures taken { self.new ≡ word_taken self.old }
     {
-        self.slots.pop_data()
+        match self.slots.get(0) {
+            Some(slot) if self.left != 0 => {
+                self.slots.skip(1);
+                self.left -= 1;
+                slot.word
+            }
+            Some(_) => 0,
+            None => 0,
+        }
     }
 
     /// Drops all entries and words. The depth stays.
@@ -99,5 +131,6 @@ impl RxFifo {
         ensures { self.new ≡ empty_of self.old.depth }
     {
         self.slots.clear();
+        self.left = 0;
     }
 }

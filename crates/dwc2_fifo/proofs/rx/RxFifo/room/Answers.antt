@@ -6,5 +6,6 @@ use Rattle.dwc2_fifo.proofs.rx.RxFifo.room.Goals as goal
 
 pub returns : goal.returns
 returns c =
-    ap (λ (n : ℕ). c.self.inside.depth - n) (c.len.ensures.count ∙ sym (length-left_in-words_in c.self.inside.slots))
+    let q = c.self.inside in
+    ap (λ (n : ℕ). q.depth - n) (c.len.ensures.count ∙ sym (length-left_in-words_in q.slots q.left c.self.invariant.whole))
     ∙ ap room_of c.self.view_is
