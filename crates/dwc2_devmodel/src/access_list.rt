@@ -24,6 +24,7 @@ impl Model for AccessList {
 }
 
 impl AccessList {
+    /// An empty list.
     pub fn new() -> AccessList
         ensures { result ≡ [] }
     {
@@ -38,22 +39,35 @@ impl AccessList {
         }
     }
 
+    /// How many accesses it has.
+    #[inline(always)]
+    pub fn len(&self) -> u16
+        ensures count { result ≡ length self.now }
+        ensures most { result ≤ 400 }
+    {
+        self.len as u16
+    }
+
+    /// The accesses, the oldest first.
     pub fn as_slice(&self) -> &[Access]
         ensures { result.now ≡ self.now }
     {
         &self.places[..self.len]
     }
 
+    /// Puts an access behind the others, which must be fewer than 400.
     #[tactic(auto, using(std::proofs::lemmas::List::take_more_set))]
     #[inline(always)]
     pub fn push(&mut self, access: Access)
         requires { length self.old < 400 }
         ensures { self.new ≡ self.old ++ access ∷ [] }
     {
-        self.places[self.len] = access;
-        self.len += 1;
+        let end = self.len;
+        self.len = end + 1;
+        self.places[end] = access;
     }
 
+    /// Takes all away.
     pub fn clear(&mut self)
         ensures { self.new ≡ [] }
     {

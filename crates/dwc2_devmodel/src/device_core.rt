@@ -11,27 +11,24 @@ use dwc2_regs::{Access, Profile};
 use std::marker::Model;
 use usb_packet::{BusAnswer, BusEvent};
 
-/// The most accesses between two `begin`s.
-const MOST_ACCESSES: u16 = 400;
-
 /// The controller in device mode. A clause sees it as its state with the accesses made.
 #[derive(Drop)]
 pub struct DevCore {
     controller: Controller,
-    spare: u16,
     accesses: AccessList,
-    made: u16,
+    made_before: u16,
 }
 
+// What is told of the accesses follows from the list and from how many were made before it began.
 impl Model for DevCore {
-    ghost use Rattle.std.specs.Prelude.{◌+◌, ◌≤◌, [], length};
+    ghost use Rattle.std.specs.Prelude.{◌+◌, ◌-◌, ◌≤◌, min, [], length};
     ghost use Rattle.device_table.specs.Bank.{Bank, most_accesses, last_made};
 
     ghost Value = { Bank };
 
-    ghost view = { λ c. record { table = c.controller; spare = c.spare; log = c.accesses; due = []; made = c.made; given = [] } };
+    ghost view = { λ c. record { table = c.controller; spare = most_accesses - length c.accesses; log = c.accesses; due = []; made = min (c.made_before + length c.accesses) last_made; given = [] } };
 
-    ghost invariant = { λ c. (length c.accesses + c.spare ≤ most_accesses) × (c.made ≤ last_made) };
+    ghost invariant = { λ c. (length c.accesses ≤ most_accesses) × (c.made_before ≤ last_made) };
 }
 
 impl DevCore {
@@ -42,9 +39,8 @@ impl DevCore {
     {
         DevCore {
             controller: Controller::new(),
-            spare: MOST_ACCESSES,
             accesses: AccessList::new(),
-            made: 0,
+            made_before: 0,
         }
     }
 
@@ -69,8 +65,6 @@ impl DevCore {
         ensures { self.new ≡ record self.old { spare = self.old.spare - 1; log = self.old.log ++ access ∷ []; made = counted self.old.made } }
     {
         self.accesses.push(access);
-        self.spare -= 1;
-        self.made = self.made.saturating_add(1);
     }
 }
 
@@ -78,7 +72,7 @@ impl Regs for DevCore {
     ghost bank = { λ c. c };
 
     fn begin(&mut self) {
-        self.spare = MOST_ACCESSES;
+        self.made_before = self.made_before.saturating_add(self.accesses.len());
         self.accesses.clear();
     }
 
