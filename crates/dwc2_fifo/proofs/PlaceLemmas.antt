@@ -1,11 +1,11 @@
 -- The first packet with a tag, at its place among the heads and the bytes.
-use Rattle.std.proofs.Common.{◌≡◌, ◌≢◌, ℕ, zero, suc, ◌+◌, ◌-◌, ◌<◌, ◌≤◌, List, [], ◌∷◌, ◌++◌, length, take, drop, ap, ap₂, sym, subst, ◌∙◌, arith, Some, Option, length-append, length-take-le, length-drop, drop-cons, get_or}
+use Rattle.std.proofs.Common.{◌≡◌, ◌≢◌, ℕ, suc, ◌+◌, ◌-◌, ◌<◌, ◌≤◌, List, [], ◌∷◌, ◌++◌, length, take, drop, ap, ap₂, sym, subst, ◌∙◌, arith, Some, Option, drop-cons, get_or}
 use Rattle.std.proofs.lemmas.List.{take_more, take-append-drop}
 use Rattle.dwc2_fifo.specs.declared.tx.Head.{Head}
 use Rattle.dwc2_fifo.specs.declared.tx.Place.{Place}
 use Rattle.dwc2_fifo.specs.Words.{word_count}
 use Rattle.dwc2_fifo.specs.Tx.{Tagged, Begun, Tx, first_with, without_first}
-use Rattle.dwc2_fifo.specs.Cut.{cut, bytes_under, words_under, begun_of, tx_of, AreLengths, NoneHas, IsFirst, IsCut}
+use Rattle.dwc2_fifo.specs.Cut.{room_of_packet, cut, bytes_under, words_under, begun_of, tx_of, AreLengths, NoneHas, IsFirst, IsCut}
 use Rattle.dwc2_fifo.proofs.CutLemmas.{bytes_under-append, words_under-append, AreLengths-append, AreLengths-split, NoneHas-append, first_with-found, without_first-found, begun_of-kept}
 
 -- the heads without the one at the place
@@ -21,8 +21,8 @@ its_tag : (tag : ℕ) (heads : List Head) (place : Place) → IsFirst tag heads 
 its_tag tag heads place f = let P : ℕ → Type 0 = λ t. NoneHas t (take place.index heads) in subst P (sym f.has_tag) f.before
 
 pub bytes_under-place : (tag : ℕ) (heads : List Head) (place : Place) → IsFirst tag heads place
-    → (bytes_under heads ≡ place.start + place.head.len + bytes_under (drop (suc place.index) heads))
-    × (bytes_under (others heads place) + place.head.len ≡ bytes_under heads)
+    → (bytes_under heads ≡ place.start + room_of_packet place.head.len + bytes_under (drop (suc place.index) heads))
+    × (bytes_under (others heads place) + room_of_packet place.head.len ≡ bytes_under heads)
     × (words_under (others heads place) + word_count place.head.len ≡ words_under heads)
 bytes_under-place tag heads place f =
     let before = take place.index heads in
@@ -52,14 +52,14 @@ first_with-place tag heads place bytes f =
     ap₂ First (sym f.has_tag) f.head_at ∙ first_with-found before after place.head bytes (its_tag tag heads place f) ∙ ap Found (sym f.start_is)
 
 pub without_first-place : (tag : ℕ) (heads : List Head) (begun : Option Head) (place : Place) (bytes : List ℕ) (depth : ℕ) → IsFirst tag heads place → bytes_under heads ≤ length bytes
-    → tx_of (others heads place) begun (take place.start bytes ++ drop (place.start + place.head.len) bytes) depth
+    → tx_of (others heads place) begun (take place.start bytes ++ drop (place.start + room_of_packet place.head.len) bytes) depth
     ≡ record { packets = without_first tag (cut heads bytes); unfinished = begun_of heads begun bytes; depth = depth }
 without_first-place tag heads begun place bytes depth f within =
     let before = take place.index heads in
     let after = drop (suc place.index) heads in
     let counts = bytes_under-place tag heads place f in
-    let fits : bytes_under before + place.head.len ≤ length bytes = omega (arith, f.start_is, counts.0) in
-    let Rest : ℕ → Tx = λ start. tx_of (before ++ after) begun (take start bytes ++ drop (start + place.head.len) bytes) depth in
+    let fits : bytes_under before + room_of_packet place.head.len ≤ length bytes = omega (arith, f.start_is, counts.0) in
+    let Rest : ℕ → Tx = λ start. tx_of (before ++ after) begun (take start bytes ++ drop (start + room_of_packet place.head.len) bytes) depth in
     let Made : List Tagged → Option Begun → Tx = λ packets unfinished. record { packets = packets; unfinished = unfinished; depth = depth } in
     let Without : ℕ → List Head → List Tagged = λ t hs. without_first t (cut hs bytes) in
     let Begins : List Head → Option Begun = λ hs. begun_of hs begun bytes in
@@ -68,16 +68,12 @@ without_first-place tag heads begun place bytes depth f within =
     (sym (ap₂ Without (sym f.has_tag) f.head_at ∙ without_first-found before after place.head bytes (its_tag tag heads place f) fits))
     (sym (ap Begins f.head_at ∙ begun_of-kept before after place.head begun bytes fits))
 
-pub IsCut-place : (tag : ℕ) (heads : List Head) (begun : Option Head) (place : Place) (got : ℕ) (bytes : List ℕ) (used depth : ℕ) → IsFirst tag heads place
-    → IsCut heads begun got bytes used depth
-    → IsCut (others heads place) begun got (take place.start bytes ++ drop (place.start + place.head.len) bytes) (used - word_count place.head.len) depth
-IsCut-place tag heads begun place got bytes used depth f i =
+pub IsCut-place : (tag : ℕ) (heads : List Head) (begun : Option Head) (place : Place) (got end used depth : ℕ) → IsFirst tag heads place
+    → IsCut heads begun got end used depth
+    → IsCut (others heads place) begun got (end - room_of_packet place.head.len) (used - word_count place.head.len) depth
+IsCut-place tag heads begun place got end used depth f i =
     let counts = bytes_under-place tag heads place f in
     let lengths = AreLengths-place tag heads place f i.lengths in
-    let front : length (take place.start bytes) ≡ place.start = length-take-le place.start bytes (omega (arith, i, counts.0)) in
-    let parts = length-append (take place.start bytes) (drop (place.start + place.head.len) bytes) in
-    let back = length-drop (place.start + place.head.len) bytes in
-    let a = counts.0 in
     let b = counts.1 in
     let w = counts.2 in
     record {
@@ -89,9 +85,9 @@ IsCut-place tag heads begun place got bytes used depth f i =
       most = i.most;
     }
 
-pub words-place : (tag : ℕ) (heads : List Head) (begun : Option Head) (place : Place) (got : ℕ) (bytes : List ℕ) (used depth : ℕ) → IsFirst tag heads place
-    → IsCut heads begun got bytes used depth → word_count place.head.len ≤ used
-words-place tag heads begun place got bytes used depth f i = let w = (bytes_under-place tag heads place f).2 in omega (arith, i)
+pub words-place : (tag : ℕ) (heads : List Head) (begun : Option Head) (place : Place) (got end used depth : ℕ) → IsFirst tag heads place
+    → IsCut heads begun got end used depth → word_count place.head.len ≤ used
+words-place tag heads begun place got end used depth f i = let w = (bytes_under-place tag heads place f).2 in omega (arith, i)
 
 -- the search goes on past a packet with another tag
 pub NoneHas-more : (tag : ℕ) (heads : List Head) (index : ℕ) (d : Head) → index < length heads → NoneHas tag (take index heads) → (get_or heads index d).tag ≢ tag
@@ -101,7 +97,7 @@ NoneHas-more tag heads index d h none other =
     subst P (sym (take_more heads index d h)) (NoneHas-append tag (take index heads) (get_or heads index d ∷ []) none (other, tt))
 
 pub bytes_under-more : (heads : List Head) (index : ℕ) (d : Head) → index < length heads
-    → bytes_under (take (index + 1) heads) ≡ bytes_under (take index heads) + (get_or heads index d).len
+    → bytes_under (take (index + 1) heads) ≡ bytes_under (take index heads) + room_of_packet (get_or heads index d).len
 bytes_under-more heads index d h =
     ap bytes_under (take_more heads index d h) ∙ bytes_under-append (take index heads) (get_or heads index d ∷ []) ∙ omega arith
 
@@ -110,8 +106,3 @@ pub head_at : (heads : List Head) (index : ℕ) (d : Head) → index < length he
 head_at heads index d h =
     let Front : List Head → List Head = λ xs. take index heads ++ xs in
     sym (ap Front (sym (drop-cons heads index d h)) ∙ take-append-drop index heads)
-
-pub len-at : (heads : List Head) (index : ℕ) (d : Head) → AreLengths heads → index < length heads → (get_or heads index d).len ≤ 64
-len-at [] index d h within = absurd (omega arith)
-len-at (head ∷ heads) zero d h within = h.1
-len-at (head ∷ heads) (suc index) d h within = len-at heads index d h.2 (omega arith)

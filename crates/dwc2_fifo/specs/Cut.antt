@@ -1,20 +1,24 @@
--- How the packets of a transmit FIFO stand in one row of bytes: each behind the one before, by the lengths that stand
--- beside the row, and the bytes of the unfinished one at the end.
-use Rattle.std.specs.Prelude.{◌≡◌, ℕ, suc, ◌+◌, ◌<◌, ◌≤◌, ◌≢◌, List, [], ◌∷◌, ◌++◌, length, take, drop, Option, Some, None}
+-- How the packets of a transmit FIFO stand in one row of bytes: each behind the words of the one before, by the lengths
+-- that stand beside the row, and the bytes of the unfinished one at the end.
+use Rattle.std.specs.Prelude.{◌≡◌, ℕ, suc, ◌+◌, ◌*◌, ◌%◌, ◌<◌, ◌≤◌, ◌≢◌, List, [], ◌∷◌, ◌++◌, length, take, drop, Option, Some, None}
 use Rattle.dwc2_fifo.specs.declared.tx.Head.{Head}
 use Rattle.dwc2_fifo.specs.declared.tx.Place.{Place}
 use Rattle.dwc2_fifo.specs.Words.{word_count}
 use Rattle.dwc2_fifo.specs.Tx.{Tagged, Begun, Tx}
 
+-- the bytes that the words of a packet of so many bytes have: its last word is filled
+abbrev pub room_of_packet : ℕ → ℕ
+room_of_packet n = 4 * word_count n
+
 -- the packets with these heads, from the first byte on
 abbrev pub cut : List Head → List ℕ → List Tagged
 cut [] bytes = []
-cut (head ∷ heads) bytes = record { tag = head.tag; bytes = take head.len bytes } ∷ cut heads (drop head.len bytes)
+cut (head ∷ heads) bytes = record { tag = head.tag; bytes = take head.len bytes } ∷ cut heads (drop (room_of_packet head.len) bytes)
 
--- how many bytes and words the packets with these heads have
+-- how many bytes and words the words of the packets with these heads have
 abbrev pub bytes_under : List Head → ℕ
 bytes_under [] = 0
-bytes_under (head ∷ heads) = head.len + bytes_under heads
+bytes_under (head ∷ heads) = room_of_packet head.len + bytes_under heads
 
 abbrev pub words_under : List Head → ℕ
 words_under [] = 0
@@ -34,22 +38,28 @@ abbrev pub AreLengths : List Head → Type 0
 AreLengths [] = Unit {0}
 AreLengths (head ∷ heads) = (1 ≤ head.len) × (head.len ≤ 64) × AreLengths heads
 
--- how many bytes lie behind the packets: none, or fewer than the packet that is begun will have
+-- how many bytes lie behind the packets: none, or those of whole words, fewer than the packet that is begun will have
 abbrev pub IsBegun : Option Head → ℕ → Type 0
 IsBegun None got = got ≡ 0
-IsBegun (Some head) got = (got < head.len) × (head.len ≤ 64)
+IsBegun (Some head) got = (got < head.len) × (head.len ≤ 64) × (got % 4 ≡ 0)
 
 abbrev pub words_begun : Option Head → ℕ
 words_begun None = 0
 words_begun (Some head) = word_count head.len
 
-pub record IsCut (heads : List Head) (begun : Option Head) (got : ℕ) (bytes : List ℕ) (used depth : ℕ) : Type 0 where
+pub record IsCut (heads : List Head) (begun : Option Head) (got end used depth : ℕ) : Type 0 where
   pub lengths : AreLengths heads
-  pub total : bytes_under heads + got ≡ length bytes
+  pub total : bytes_under heads + got ≡ end
   pub behind : IsBegun begun got
   pub counted : used ≡ words_under heads + words_begun begun
   pub fits : used ≤ depth
   pub most : depth ≤ 1024
+
+-- the row is the first `end` of 4,096 bytes
+pub record IsStored (heads : List Head) (begun : Option Head) (got : ℕ) (bytes : List ℕ) (end used depth : ℕ) : Type 0 where
+  pub size : length bytes ≡ 4096
+  pub inside : end ≤ 4096
+  pub is_cut : IsCut heads begun got end used depth
 
 -- none of the packets has the tag
 abbrev pub NoneHas : ℕ → List Head → Type 0

@@ -1,50 +1,59 @@
-ghost use Rattle.std.specs.Prelude.{◌≡◌, ℕ, ◌+◌, ◌<◌, ◌≤◌, List, [], ◌∷◌, ◌++◌, length, take, drop, IsSome, IfSome, IfNone, option_map};
-ghost use Rattle.dwc2_fifo.specs.Cut.{IsFirst, NoneHas, AreLengths};
+ghost use Rattle.std.specs.Prelude.{◌≡◌, ℕ, ◌+◌, ◌-◌, ◌<◌, ◌≤◌, List, [], ◌∷◌, ◌++◌, length, take, drop, IsSome, IfSome, IfNone, option_map};
+ghost use Rattle.dwc2_fifo.specs.Cut.{IsFirst, NoneHas, room_of_packet};
 ghost use Rattle.dwc2_regs.specs.Word.{bytes_of};
 ghost use Rattle.dwc2_fifo.specs.Words.{word_count};
 ghost use Rattle.dwc2_fifo.specs.Tx.{Tx, space_of, empty_of, IsEmpty, begun_in, with_word, first_with, without_first};
 
 use arrayvec::ArrayVec;
-use dwc2_regs::{unpack_word, word_bytes};
+use dwc2_regs::word_bytes;
 use std::marker::Model;
 use usb_packet::Packet;
 
-// Whose a packet is, and how many bytes it has.
+/// Whose a packet is, and how many bytes it has.
 #[derive(Clone, Copy, Debug, Default, PartialEq, Eq)]
 pub struct Head {
+    /// The tag that names whose it is.
     pub tag: u8,
+    /// Its bytes, 1 to 64.
     pub len: u8,
 }
 
-// Where a packet stands among the packets, and its bytes among the bytes.
+/// Where a packet stands among the packets, and its words among the bytes.
 #[derive(Clone, Copy, Debug, PartialEq, Eq)]
 pub struct Place {
+    /// How many packets stand before it.
     pub index: usize,
+    /// How many bytes the words of those have.
     pub start: usize,
+    /// Whose it is, and how long.
     pub head: Head,
 }
 
 /// A transmit FIFO. A packet is begun with its length and is whole once its last word was pushed; each has a tag that
 /// names whose it is. A packet of no bytes has no words and never stands here.
+///
+/// The bytes of the words stand in one row, in the order in which they were pushed; a packet begins with a word.
 #[derive(Drop)]
 pub struct TxFifo {
     heads: ArrayVec<Head, 1024>,
     begun: Option<Head>,
     got: u8,
-    bytes: ArrayVec<u8, 4096>,
+    bytes: [u8; 4096],
+    end: usize,
     used: u16,
     depth: u16,
 }
 
 impl Model for TxFifo {
+    ghost use Rattle.std.specs.Prelude.{take};
     ghost use Rattle.dwc2_fifo.specs.Tx.{Tx};
-    ghost use Rattle.dwc2_fifo.specs.Cut.{tx_of, IsCut};
+    ghost use Rattle.dwc2_fifo.specs.Cut.{tx_of, IsStored};
 
     ghost Value = { Tx };
 
-    ghost view = { λ f. tx_of f.heads.items f.begun f.bytes.items f.depth };
+    ghost view = { λ f. tx_of f.heads.items f.begun (take f.end f.bytes) f.depth };
 
-    ghost invariant = { λ f. IsCut f.heads.items f.begun f.got f.bytes.items f.used f.depth };
+    ghost invariant = { λ f. IsStored f.heads.items f.begun f.got f.bytes f.end f.used f.depth };
 }
 
 fn words(bytes: u8) -> u16
@@ -54,10 +63,17 @@ fn words(bytes: u8) -> u16
     (bytes as u16 + 3) / 4
 }
 
+// The bytes that the words of a packet have.
+fn room(bytes: u8) -> usize
+    ensures value { result ≡ room_of_packet bytes }
+    ensures small { result ≤ 256 }
+{
+    4 * words(bytes) as usize
+}
+
 // The first packet with that tag.
 fn place_of(heads: &[Head], tag: u8) -> Option<Place>
-    requires lengths { AreLengths heads.now }
-    requires few { length heads.now ≤ 1024 }
+    requires { length heads.now ≤ 1024 }
     ensures found { IfSome result (IsFirst tag heads.now) }
     ensures none { IfNone result (NoneHas tag heads.now) }
 {
@@ -66,7 +82,7 @@ fn place_of(heads: &[Head], tag: u8) -> Option<Place>
         if head.tag == tag {
             return Some(Place { index, start, head });
         }
-        start += head.len as usize;
+        start += room(head.len);
     }
     None
 }
@@ -82,31 +98,32 @@ fn packet_at(bytes: &[u8], start: usize, len: usize) -> Option<Packet>
     Packet::new(packet).ok()
 }
 
-// Puts the first bytes of a word, as many as are wanted, behind the others.
-fn append_bytes(bytes: &mut ArrayVec<u8, 4096>, word: u32, count: u8)
-    requires some { 1 ≤ count }
-    requires most { count ≤ 4 }
-    requires room { length bytes.old.items + count ≤ 4096 }
-    ensures { bytes.new.items ≡ bytes.old.items ++ bytes_of count word }
+// Writes a word behind the first `end` bytes.
+#[inline(always)]
+fn put_word(bytes: &mut [u8], end: usize, word: u32)
+    requires { end + 4 ≤ length bytes.old }
+    ensures { take (end + 4) bytes.new ≡ take end bytes.old ++ bytes_of 4 word }
 {
-    if count == 4 {
-        let _ = bytes.try_extend_from_slice(&word_bytes(word));
-    } else {
-        let new = unpack_word(word, count);
-        let _ = bytes.try_extend_from_slice(new.as_slice());
-    }
+    bytes[end..end + 4].copy_from_slice(&word_bytes(word));
 }
 
-// Takes the bytes of one packet out of the row.
-fn close_gap(bytes: &mut ArrayVec<u8, 4096>, start: usize, len: usize)
-    requires { start + len ≤ length bytes.old.items }
-    ensures { bytes.new.items ≡ take start bytes.old.items ++ drop (start + len) bytes.old.items }
+// Takes the bytes of one packet out of the first `end`.
+fn remove_bytes(bytes: &mut [u8], end: usize, start: usize, len: usize)
+    requires inside { start + len ≤ end }
+    requires row { end ≤ length bytes.old }
+    ensures { take (end - len) bytes.new ≡ take start (take end bytes.old) ++ drop (start + len) (take end bytes.old) }
 {
-    let kept = bytes.len() - len;
-    if start < kept {
-        rotate_from(bytes.as_mut_slice(), start, len);
+    close_gap(&mut bytes[..end], start, len);
+}
+
+// Takes them out of the row.
+fn close_gap(bytes: &mut [u8], start: usize, len: usize)
+    requires { start + len ≤ length bytes.old }
+    ensures { take (length bytes.old - len) bytes.new ≡ take start bytes.old ++ drop (start + len) bytes.old }
+{
+    if start + len < bytes.len() {
+        rotate_from(bytes, start, len);
     }
-    bytes.truncate(kept);
 }
 
 fn rotate_from(bytes: &mut [u8], start: usize, len: usize)
@@ -125,7 +142,8 @@ impl TxFifo {
             heads: ArrayVec::new(),
             begun: None,
             got: 0,
-            bytes: ArrayVec::new(),
+            bytes: [0; 4096],
+            end: 0,
             used: 0,
             depth: 0,
         }
@@ -176,15 +194,14 @@ impl TxFifo {
         ensures { self.new ≡ with_word self.old word }
     {
         if let Some(head) = self.begun {
-            let lacking = head.len - self.got;
-            let count = lacking.min(4);
-            append_bytes(&mut self.bytes, word, count);
-            if lacking <= 4 {
+            put_word(&mut self.bytes, self.end, word);
+            self.end += 4;
+            if head.len - self.got <= 4 {
                 self.heads.push(head);
                 self.begun = None;
                 self.got = 0;
             } else {
-                self.got += count;
+                self.got += 4;
             }
         }
     }
@@ -194,7 +211,11 @@ impl TxFifo {
         ensures { result ≡ first_with tag self.now.packets }
     {
         match place_of(self.heads.as_slice(), tag) {
-            Some(place) => packet_at(self.bytes.as_slice(), place.start, place.head.len as usize),
+            Some(place) => packet_at(
+                &self.bytes[..self.end],
+                place.start,
+                place.head.len as usize,
+            ),
             None => None,
         }
     }
@@ -205,7 +226,9 @@ impl TxFifo {
     {
         if let Some(place) = place_of(self.heads.as_slice(), tag) {
             self.heads.remove(place.index);
-            close_gap(&mut self.bytes, place.start, place.head.len as usize);
+            let freed = room(place.head.len);
+            remove_bytes(&mut self.bytes, self.end, place.start, freed);
+            self.end -= freed;
             self.used -= words(place.head.len);
         }
     }
@@ -215,8 +238,7 @@ impl TxFifo {
         ensures { self.new ≡ record self.old { unfinished = None } }
     {
         if let Some(head) = self.begun {
-            let kept = self.bytes.len() - self.got as usize;
-            self.bytes.truncate(kept);
+            self.end -= self.got as usize;
             self.begun = None;
             self.got = 0;
             self.used -= words(head.len);
@@ -230,7 +252,7 @@ impl TxFifo {
         self.heads.clear();
         self.begun = None;
         self.got = 0;
-        self.bytes.clear();
+        self.end = 0;
         self.used = 0;
     }
 }

@@ -8,5 +8,5 @@ invariant-loop-index l =
     record {
       before : NoneHas l.tag (take l.index l.heads);
       start_is : l.start ≡ bytes_under (take l.index l.heads);
-      small : l.start ≤ 255 * l.index;
+      small : l.start ≤ 256 * l.index;
     }
