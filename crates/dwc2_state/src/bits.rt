@@ -7,6 +7,7 @@ use dwc2_regs::{Field, get_field, put_field};
 use usb_packet::Toggle;
 
 /// Whether a field of one bit is 1.
+#[inline(always)]
 pub fn flag(word: u32, field: Field) -> bool
     requires width { 1 ≤ field.width }
     requires within { field.low + field.width ≤ 32 }
@@ -16,6 +17,7 @@ pub fn flag(word: u32, field: Field) -> bool
 }
 
 /// The word with that bit.
+#[inline(always)]
 pub fn with_flag(word: u32, field: Field, bit: bool) -> u32
     requires width { field.width ≡ 1 }
     requires within { field.low + 1 ≤ 32 }
@@ -25,6 +27,7 @@ pub fn with_flag(word: u32, field: Field, bit: bool) -> u32
 }
 
 /// Whether the bit of that number is 1.
+#[inline(always)]
 pub fn bit_at(word: u32, number: u8) -> bool
     requires { number ≤ 31 }
     ensures { result ≡ bit_at word number }

@@ -195,6 +195,7 @@ impl InEndpoint {
 
     /// A word is written to its FIFO window. It belongs to the packet that lacks words, or begins the next one of the
     /// transfer where there is room for it; another one is dropped.
+    #[inline(always)]
     pub fn push_word(&mut self, number: u8, word: u32)
         ensures { self.new ≡ word_written number self.old word }
     {
@@ -214,6 +215,7 @@ impl InEndpoint {
         (self.control.packet_size(number) as u32).min(self.to_come) as u8
     }
 
+    #[inline(never)]
     fn begin_packet(&mut self, number: u8, word: u32)
         requires { self.old.fifo.unfinished ≡ None }
         ensures { self.new ≡ packet_begun number self.old word }
@@ -259,6 +261,7 @@ impl InEndpoint {
     }
 
     /// The packet for the host, if there is one.
+    #[inline(always)]
     pub fn packet_ready(&self, number: u8) -> Option<Packet>
         ensures { result ≡ packet_ready number self.now }
     {
@@ -272,6 +275,7 @@ impl InEndpoint {
     }
 
     /// The host acknowledged that packet.
+    #[inline(always)]
     pub fn acknowledge(&mut self, number: u8)
         ensures { self.new ≡ in_acked number self.old }
     {

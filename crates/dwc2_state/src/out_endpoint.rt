@@ -1,4 +1,4 @@
-ghost use Rattle.std.specs.Prelude.{◌≡◌, true};
+ghost use Rattle.std.specs.Prelude.{◌≡◌, ◌||◌, true};
 ghost use Rattle.usb_packet.specs.declared.bus.Toggle.TheVariants.{D1};
 ghost use Rattle.device_table.specs.State.{no_out_end};
 ghost use Rattle.device_table.specs.Read.{doepint_word};
@@ -16,7 +16,7 @@ use dwc2_regs::{
 use std::marker::Model;
 use usb_packet::Toggle;
 
-/// One OUT endpoint.
+/// One OUT endpoint. It keeps whether any of its interrupts is 1, since most are asked for while none is.
 #[derive(Drop)]
 pub struct OutEndpoint {
     control: ControlRegister,
@@ -24,15 +24,19 @@ pub struct OutEndpoint {
     xfrc: bool,
     epdisd: bool,
     stup: bool,
+    raised: bool,
     tsiz: u32,
 }
 
 impl Model for OutEndpoint {
+    ghost use Rattle.std.specs.Prelude.{◌≡◌, ◌||◌};
     ghost use Rattle.device_table.specs.State.{OutEnd};
 
     ghost Value = { OutEnd };
 
     ghost view = { λ e. record { control = e.control; toggle = e.toggle; xfrc = e.xfrc; epdisd = e.epdisd; stup = e.stup; tsiz = e.tsiz } };
+
+    ghost invariant = { λ e. e.raised ≡ (e.xfrc || e.epdisd || e.stup) };
 }
 
 impl OutEndpoint {
@@ -46,6 +50,7 @@ impl OutEndpoint {
             xfrc: false,
             epdisd: false,
             stup: false,
+            raised: false,
             tsiz: 0,
         }
     }
@@ -85,6 +90,13 @@ impl OutEndpoint {
         self.stup
     }
 
+    /// Whether DOEPINTx has any of them.
+    pub fn is_raised(&self) -> bool
+        ensures { result ≡ (self.now.xfrc || self.now.epdisd || self.now.stup) }
+    {
+        self.raised
+    }
+
     /// DOEPINTx.
     pub fn interrupts(&self) -> u32
         ensures { result ≡ doepint_word self.now }
@@ -120,8 +132,10 @@ impl OutEndpoint {
         self.xfrc = self.xfrc && !cleared.contains(EndpointInterrupts::XFRC);
         self.epdisd = self.epdisd && !cleared.contains(EndpointInterrupts::EPDISD);
         self.stup = self.stup && !cleared.contains(EndpointInterrupts::STUP);
+        self.raised = self.xfrc || self.epdisd || self.stup;
     }
 
+    #[tactic(auto, using(crate::proofs::RaisedLemmas::raised_more))]
     fn write_control(&mut self, cnak_acts: bool, word: u32)
         ensures { self.new ≡ out_control_written cnak_acts self.old word }
     {
@@ -129,14 +143,18 @@ impl OutEndpoint {
         if flag(word, DIEPCTL_SD0PID) {
             self.toggle = Toggle::D0;
         }
-        self.epdisd = self.epdisd || flag(word, DIEPCTL_EPDIS);
+        let disables = flag(word, DIEPCTL_EPDIS);
+        self.epdisd = self.epdisd || disables;
+        self.raised = self.raised || disables;
     }
 
     /// The end of a SETUP was popped.
+    #[tactic(auto, using(crate::proofs::RaisedLemmas::raised_by_last))]
     pub fn end_setup(&mut self)
         ensures { self.new ≡ record self.old { stup = true } }
     {
         self.stup = true;
+        self.raised = true;
     }
 
     /// The end of a packet was popped.
@@ -144,6 +162,7 @@ impl OutEndpoint {
         ensures { self.new ≡ record self.old { xfrc = true } }
     {
         self.xfrc = true;
+        self.raised = true;
     }
 
     /// A SETUP came: it is disabled and answers NAK, and the next packet is DATA1.
