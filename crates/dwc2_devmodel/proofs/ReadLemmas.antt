@@ -1,5 +1,7 @@
 -- The registers of which a read changes nothing, and those that stand at 0 where the controller has no such endpoint.
-use Rattle.std.proofs.Common.{◌≡◌, ◌≢◌, ℕ, zero, suc, refl}
+use Rattle.std.proofs.Common.{◌≡◌, ◌≢◌, ℕ, zero, suc, Bool, true, false, refl}
+use Rattle.std.proofs.lemmas.Bool.{true≢false}
+use Rattle.std.specs.Prelude.{◌&&◌, ◌||◌}
 use Rattle.device_table.specs.State.{Table, in_end_of}
 use Rattle.device_table.specs.Read.{after_read, diepint_word}
 use Rattle.dwc2_state.specs.declared.place.HostRegister.{HostRegister}
@@ -50,3 +52,10 @@ out_stays t x out_side.Size = refl
 pub no_interrupts : (x : ℕ) → x ≢ 0 → diepint_word x (in_end_of 0) ≡ 0
 no_interrupts zero h = absurd (h refl)
 no_interrupts (suc x) h = refl
+
+-- where none of three interrupts is 1, none is under a mask
+pub none_raised : (xfrc epdisd stup a b c : Bool) → (xfrc || epdisd || stup) ≡ false → ((xfrc && a) || (epdisd && b) || (stup && c)) ≡ false
+none_raised true epdisd stup a b c h = absurd (true≢false h)
+none_raised false true stup a b c h = absurd (true≢false h)
+none_raised false false true a b c h = absurd (true≢false h)
+none_raised false false false a b c h = refl

@@ -187,8 +187,15 @@ impl Controller {
     }
 
     // An OUT endpoint's bit of DAINT.
-    #[tactic(auto, using(dwc2_regs::proofs::SetLemmas::interrupt_bits))]
+    #[tactic(auto, using(crate::proofs::ReadLemmas::none_raised))]
     fn out_interrupts(&self, end: &OutEndpoint) -> bool
+        ensures { result ≡ out_interrupts self.now end.now }
+    {
+        end.is_raised() && self.raised_under_mask(end)
+    }
+
+    #[tactic(auto, using(dwc2_regs::proofs::SetLemmas::interrupt_bits))]
+    fn raised_under_mask(&self, end: &OutEndpoint) -> bool
         ensures { result ≡ out_interrupts self.now end.now }
     {
         let mask = EndpointInterrupts::from_bits_retain(self.kept.doepmsk);
@@ -263,7 +270,7 @@ impl Controller {
     fn any_out(&self) -> bool
         ensures { result ≡ oepint self.now }
     {
-        (bit_at(self.kept.daintmsk, 16) && self.out_interrupts(&self.out0))
+        (self.out_interrupts(&self.out0) && bit_at(self.kept.daintmsk, 16))
             || self.any_out_from(17, self.outs.as_slice())
     }
 
@@ -274,7 +281,7 @@ impl Controller {
         match ends {
             [] => false,
             [end, rest @ ..] => {
-                (bit_at(self.kept.daintmsk, number) && self.out_interrupts(end))
+                (self.out_interrupts(end) && bit_at(self.kept.daintmsk, number))
                     || self.any_out_from(number + 1, rest)
             }
         }
