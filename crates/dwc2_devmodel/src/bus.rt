@@ -231,7 +231,19 @@ impl Controller {
         self.rx.push_entry(status_word(ep, 0, 0, OUT_DONE), &[]);
     }
 
+    // Nearly all tokens are for endpoint 0, so what its number decides is decided here.
     fn token(&mut self, addr: u8, ep: u8, ok: bool) -> BusAnswer
+        ensures answer { result ≡ bus_answer self.old (In addr ep ok) }
+        ensures after { self.new ≡ after_bus self.old (In addr ep ok) }
+    {
+        match ep {
+            0 => self.token_at(addr, 0, ok),
+            _ => self.token_at(addr, ep, ok),
+        }
+    }
+
+    #[inline(always)]
+    fn token_at(&mut self, addr: u8, ep: u8, ok: bool) -> BusAnswer
         ensures answer { result ≡ bus_answer self.old (In addr ep ok) }
         ensures after { self.new ≡ after_bus self.old (In addr ep ok) }
     {
@@ -248,6 +260,7 @@ impl Controller {
         }
     }
 
+    #[inline(always)]
     fn in_outcome(&self, addr: u8, ep: u8) -> InOutcome
         ensures value { in_outcome_of result ≡ in_outcome self.now addr ep }
         ensures toggle { HasToggle result (in_end self.now ep).toggle }
@@ -272,6 +285,7 @@ impl Controller {
     }
 
     // The host acknowledged the packet of an IN endpoint.
+    #[inline(always)]
     fn acknowledge(&mut self, x: u8)
         ensures { self.new ≡ with_in self.old x (in_acked x (in_end self.old x)) }
     {
