@@ -88,14 +88,16 @@ fn place_of(heads: &[Head], tag: u8) -> Option<Place>
 }
 
 // The packet of so many bytes from `start` on.
-fn packet_at(bytes: &[u8], start: usize, len: usize) -> Option<Packet>
+fn packet_at(bytes: &[u8], start: usize, len: usize) -> Packet
     requires inside { start + len ≤ length bytes.now }
     requires most { len ≤ 64 }
-    ensures { result ≡ Some (take len (drop start bytes.now)) }
+    ensures { result ≡ take len (drop start bytes.now) }
 {
     let (_, from_start) = bytes.split_at(start);
     let (packet, _) = from_start.split_at(len);
-    Packet::new(packet).ok()
+    let mut items = ArrayVec::new();
+    let _ = items.try_extend_from_slice(packet);
+    Packet::of(items)
 }
 
 // Writes a word behind the first `end` bytes.
@@ -211,11 +213,11 @@ impl TxFifo {
         ensures { result ≡ first_with tag self.now.packets }
     {
         match place_of(self.heads.as_slice(), tag) {
-            Some(place) => packet_at(
+            Some(place) => Some(packet_at(
                 &self.bytes[..self.end],
                 place.start,
                 place.head.len as usize,
-            ),
+            )),
             None => None,
         }
     }

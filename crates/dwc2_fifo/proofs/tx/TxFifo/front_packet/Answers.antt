@@ -1,5 +1,5 @@
 -- the packet's bytes are those from its place on
-use Rattle.std.proofs.Common.{◌≤◌, ◌+◌, ◌∙◌, ap, sym, arith, ℕ, List, take, length-take-le, Option}
+use Rattle.std.proofs.Common.{◌≤◌, ◌+◌, ◌∙◌, ap, sym, arith, ℕ, List, take, length-take-le, Option, Some}
 use Rattle.dwc2_fifo.specs.Tx.{Tx, first_with}
 use Rattle.dwc2_fifo.specs.Cut.{IsFirst, NoneHas}
 use Rattle.dwc2_fifo.proofs.CutLemmas.{first_with-none}
@@ -27,8 +27,9 @@ pub returns-in-Some : goal.returns-in-Some
 returns-in-Some c =
     let q = c.self.inside in
     let f : IsFirst c.args.tag q.heads.items c.in-Some.place = rw c.as_slice.ensures.value at c.in-Some.ensures.found in
+    let Taken : List ℕ → Option (List ℕ) = λ bytes. Some bytes in
     let First : Tx → Option (List ℕ) = λ tx. first_with c.args.tag tx.packets in
-    c.packet_at.ensures ∙ sym (first_with-place c.args.tag q.heads.items c.in-Some.place (take q.end q.bytes) f) ∙ ap First c.self.view_is
+    ap Taken c.packet_at.ensures ∙ sym (first_with-place c.args.tag q.heads.items c.in-Some.place (take q.end q.bytes) f) ∙ ap First c.self.view_is
 
 pub returns-in-None : goal.returns-in-None
 returns-in-None c =
