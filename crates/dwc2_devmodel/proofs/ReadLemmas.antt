@@ -1,9 +1,10 @@
 -- The registers of which a read changes nothing, and those that stand at 0 where the controller has no such endpoint.
-use Rattle.std.proofs.Common.{◌≡◌, ◌≢◌, ℕ, zero, suc, Bool, true, false, refl}
+use Rattle.std.proofs.Common.{◌≡◌, ◌≢◌, ℕ, zero, suc, Bool, true, false, None, refl}
 use Rattle.std.proofs.lemmas.Bool.{true≢false}
 use Rattle.std.specs.Prelude.{◌&&◌, ◌||◌}
 use Rattle.device_table.specs.State.{Table, in_end_of}
 use Rattle.device_table.specs.Read.{after_read, diepint_word}
+use Rattle.device_table.specs.Bus.{packet_ready}
 use Rattle.dwc2_state.specs.declared.place.HostRegister.{HostRegister}
 use Rattle.dwc2_state.specs.declared.place.HostRegister.TheVariants as host
 use Rattle.dwc2_state.specs.declared.place.DeviceRegister.{DeviceRegister}
@@ -59,3 +60,8 @@ none_raised true epdisd stup a b c h = absurd (true≢false h)
 none_raised false true stup a b c h = absurd (true≢false h)
 none_raised false false true a b c h = absurd (true≢false h)
 none_raised false false false a b c h = refl
+
+-- an endpoint that the controller hasn't has no packet
+pub no_packet : (x : ℕ) → packet_ready x (in_end_of 0) ≡ None
+no_packet zero = refl
+no_packet (suc x) = refl

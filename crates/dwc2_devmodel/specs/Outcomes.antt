@@ -1,6 +1,5 @@
 -- The outcomes of packets on the bus, as the code names them.
-use Rattle.std.specs.Prelude.{◌≡◌, ⊤}
-use Rattle.usb_packet.specs.declared.bus.Toggle.{Toggle}
+use Rattle.std.specs.Prelude.{ℕ, List, Option}
 use Rattle.device_table.specs.Bus as bus
 use Rattle.dwc2_devmodel.specs.declared.bus.OutOutcome.{OutOutcome}
 use Rattle.dwc2_devmodel.specs.declared.bus.OutOutcome.TheVariants as out_side
@@ -14,15 +13,9 @@ out_outcome_of out_side.Stalls = bus.stalls
 out_outcome_of out_side.Drops = bus.drops
 out_outcome_of out_side.Lands = bus.lands
 
-abbrev pub in_outcome_of : InOutcome → bus.InOutcome
-in_outcome_of in_side.Unheard = bus.unheard_in
-in_outcome_of in_side.Naks = bus.naks_in
-in_outcome_of in_side.Stalls = bus.stalls_in
-in_outcome_of (in_side.Sends toggle packet) = bus.sends packet
-
--- a packet that is sent has this toggle
-abbrev pub HasToggle : InOutcome → Toggle → Type 0
-HasToggle in_side.Unheard toggle = ⊤
-HasToggle in_side.Naks toggle = ⊤
-HasToggle in_side.Stalls toggle = ⊤
-HasToggle (in_side.Sends its packet) toggle = its ≡ toggle
+-- an endpoint that is asked for its packet sends the one that is ready, if one is
+abbrev pub in_outcome_of : InOutcome → Option (List ℕ) → bus.InOutcome
+in_outcome_of in_side.Unheard ready = bus.unheard_in
+in_outcome_of in_side.Naks ready = bus.naks_in
+in_outcome_of in_side.Stalls ready = bus.stalls_in
+in_outcome_of in_side.Asked ready = bus.sends_of ready

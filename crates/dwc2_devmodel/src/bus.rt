@@ -5,12 +5,12 @@ ghost use Rattle.usb_packet.specs.declared.bus.Toggle.TheVariants.{D1};
 ghost use Rattle.dwc2_fifo.specs.Words.{word_count};
 ghost use Rattle.dwc2_fifo.specs.Rx.{room_of};
 ghost use Rattle.dwc2_devmodel.specs.declared.bus.OutOutcome.TheVariants.{Lands};
-ghost use Rattle.dwc2_devmodel.specs.Outcomes.{out_outcome_of, in_outcome_of, HasToggle};
+ghost use Rattle.dwc2_devmodel.specs.Outcomes.{out_outcome_of, in_outcome_of};
 ghost use Rattle.dwc2_regs.specs.declared.access.TheConstants.{FS4};
 ghost use Rattle.device_table.specs.State.{out_end, with_out, in_end, with_in};
 ghost use Rattle.device_table.specs.Words.{status_word};
 ghost use Rattle.device_table.specs.Write.{emptied};
-ghost use Rattle.device_table.specs.Bus.{hears, hears_setup, hears_out, has_room, is_repeated, after_reset, after_setup, setup_entries, out_entries, out_landed, landed_on_0, after_landing, bus_answer, after_bus, in_acked, out_outcome, in_outcome};
+ghost use Rattle.device_table.specs.Bus.{hears, hears_setup, hears_out, has_room, is_repeated, after_reset, after_setup, setup_entries, out_entries, out_landed, landed_on_0, after_landing, bus_answer, after_bus, in_acked, packet_ready, sends_of, in_answer, after_in, out_outcome, in_outcome};
 
 use crate::controller::Controller;
 use dwc2_regs::{DCFG_ADDRESS, OUT_DATA, OUT_DONE, SETUP_DATA, SETUP_DONE, get_field};
@@ -27,13 +27,13 @@ enum OutOutcome {
     Lands,
 }
 
-/// What comes of an IN token: nothing is heard, NAK, STALL, or a packet is sent with its toggle.
-#[derive(Drop)]
+/// What comes of an IN token: nothing is heard, NAK, STALL, or the endpoint is asked for its packet.
+#[derive(Clone, Copy)]
 enum InOutcome {
     Unheard,
     Naks,
     Stalls,
-    Sends(Toggle, Packet),
+    Asked,
 }
 
 /// The most SETUPs that lie unserved.
@@ -251,19 +251,13 @@ impl Controller {
             InOutcome::Unheard => BusAnswer::NoAnswer,
             InOutcome::Naks => BusAnswer::Nak,
             InOutcome::Stalls => BusAnswer::Stall,
-            InOutcome::Sends(toggle, packet) => {
-                if ok {
-                    self.acknowledge(ep);
-                }
-                BusAnswer::Data(toggle, packet)
-            }
+            InOutcome::Asked => self.send(ep, ok),
         }
     }
 
     #[inline(always)]
     fn in_outcome(&self, addr: u8, ep: u8) -> InOutcome
-        ensures value { in_outcome_of result ≡ in_outcome self.now addr ep }
-        ensures toggle { HasToggle result (in_end self.now ep).toggle }
+        ensures { in_outcome_of result (packet_ready ep (in_end self.now ep)) ≡ in_outcome self.now addr ep }
     {
         let Some(end) = self.in_end(ep) else {
             return InOutcome::Unheard;
@@ -277,10 +271,29 @@ impl Controller {
         } else if end.control().naks() {
             InOutcome::Naks
         } else {
-            match end.packet_ready(ep) {
-                Some(packet) => InOutcome::Sends(end.toggle(), packet),
-                None => InOutcome::Naks,
+            InOutcome::Asked
+        }
+    }
+
+    // The packet that is ready, if one is, and whether the host acknowledges it.
+    #[tactic(auto, using(crate::proofs::ReadLemmas::no_packet))]
+    #[inline(always)]
+    fn send(&mut self, ep: u8, ok: bool) -> BusAnswer
+        ensures answer { result ≡ in_answer (in_end self.old ep).toggle (sends_of (packet_ready ep (in_end self.old ep))) }
+        ensures after { self.new ≡ after_in self.old ep ok (sends_of (packet_ready ep (in_end self.old ep))) }
+    {
+        let Some(end) = self.in_end(ep) else {
+            return BusAnswer::Nak;
+        };
+        let toggle = end.toggle();
+        match end.packet_ready(ep) {
+            Some(packet) => {
+                if ok {
+                    self.acknowledge(ep);
+                }
+                BusAnswer::Data(toggle, packet)
             }
+            None => BusAnswer::Nak,
         }
     }
 
