@@ -67,6 +67,8 @@ impl Controller {
                 packet,
                 ok,
             } => self.packet(*addr, *ep, *toggle, packet, *ok),
+            // Nearly all tokens are for endpoint 0, so what its number decides is decided here.
+            BusEvent::In { addr, ep: 0, ok } => self.token(*addr, 0, *ok),
             BusEvent::In { addr, ep, ok } => self.token(*addr, *ep, *ok),
         }
     }
@@ -231,19 +233,8 @@ impl Controller {
         self.rx.push_entry(status_word(ep, 0, 0, OUT_DONE), &[]);
     }
 
-    // Nearly all tokens are for endpoint 0, so what its number decides is decided here.
-    fn token(&mut self, addr: u8, ep: u8, ok: bool) -> BusAnswer
-        ensures answer { result ≡ bus_answer self.old (In addr ep ok) }
-        ensures after { self.new ≡ after_bus self.old (In addr ep ok) }
-    {
-        match ep {
-            0 => self.token_at(addr, 0, ok),
-            _ => self.token_at(addr, ep, ok),
-        }
-    }
-
     #[inline(always)]
-    fn token_at(&mut self, addr: u8, ep: u8, ok: bool) -> BusAnswer
+    fn token(&mut self, addr: u8, ep: u8, ok: bool) -> BusAnswer
         ensures answer { result ≡ bus_answer self.old (In addr ep ok) }
         ensures after { self.new ≡ after_bus self.old (In addr ep ok) }
     {
