@@ -209,6 +209,7 @@ impl TxFifo {
     }
 
     /// The first whole packet with that tag, which stays.
+    #[inline(always)]
     pub fn front_packet(&self, tag: u8) -> Option<Packet>
         ensures { result ≡ first_with tag self.now.packets }
     {
@@ -223,6 +224,7 @@ impl TxFifo {
     }
 
     /// Removes the first whole packet with that tag. Where there is none nothing changes.
+    #[inline(always)]
     pub fn release(&mut self, tag: u8)
         ensures { self.new ≡ record self.old { packets = without_first tag self.old.packets } }
     {
