@@ -6,7 +6,7 @@ ghost use Rattle.dwc2_fifo.specs.Rx.{room_of};
 ghost use Rattle.device_table.specs.Words.{status_word};
 ghost use Rattle.device_table.specs.Bus.{out_entries};
 ghost use Rattle.host_table.specs.State.{channel_at};
-ghost use Rattle.host_table.specs.Bus.{after_attach, after_detach, reset_asked, after_reset_asked, disabled, lowest_from, taker, packet_in, packet_ready, packet_sent, sent_where_ready, sent_by, offer, has_room, acked, naked, stalled, unanswered, wrong_pid, lands, data_outcome, in_outcome, out_outcome, data_landed, after_some, after_xact};
+ghost use Rattle.host_table.specs.Bus.{after_attach, after_detach, reset_asked, after_reset_asked, disabled, packet_in, packet_ready, packet_sent, sent_where_ready, sent_by, is_sent, can_take, lowest_from, taker, offer, has_room, acked, naked, stalled, unanswered, wrong_pid, lands, data_outcome, in_outcome, out_outcome, data_landed, after_some, after_xact};
 
 use crate::controller::Controller;
 use dwc2_hoststate::ChannelState;
@@ -32,21 +32,14 @@ fn disable_each(channels: &mut [ChannelState])
     }
 }
 
-// The lowest channel that asks for that address and endpoint. The first one has this number.
-fn lowest(channels: &[ChannelState], addr: u8, ep: u8, number: u8) -> Option<u8>
-    requires { number + length channels.now ≤ 12 }
-    ensures value { result ≡ lowest_from number addr ep channels.now }
-    ensures inside { IfSome result (λ x. x < number + length channels.now) }
+fn is_sent(sent: &HostSent) -> bool
+    ensures { result ≡ is_sent sent.now }
 {
-    match channels {
-        [] => None,
-        [channel, rest @ ..] => {
-            if channel.asks(addr, ep) {
-                Some(number)
-            } else {
-                lowest(rest, addr, ep, number + 1)
-            }
-        }
+    match sent {
+        HostSent::Idle => false,
+        HostSent::Setup(_) => true,
+        HostSent::Out(_, _) => true,
+        HostSent::In => true,
     }
 }
 
@@ -103,17 +96,47 @@ impl Controller {
         ensures inside { IfSome result (λ x. x < FS4.channels) }
     {
         if self.port.pena {
-            lowest(self.channels.as_slice(), addr, ep, 0)
+            self.lowest(self.channels.as_slice(), addr, ep, 0)
         } else {
             None
         }
+    }
+
+    // The lowest of these channels that can take the bus. The first one has this number.
+    fn lowest(&self, channels: &[ChannelState], addr: u8, ep: u8, number: u8) -> Option<u8>
+        requires { number + length channels.now ≤ 12 }
+        ensures value { result ≡ lowest_from self.now number addr ep channels.now }
+        ensures inside { IfSome result (λ x. x < number + length channels.now) }
+    {
+        match channels {
+            [] => None,
+            [channel, rest @ ..] => {
+                if self.can_take(number, channel, addr, ep) {
+                    Some(number)
+                } else {
+                    self.lowest(rest, addr, ep, number + 1)
+                }
+            }
+        }
+    }
+
+    // Whether a channel asks for that address and endpoint, and has what it needs.
+    fn can_take(&self, x: u8, channel: &ChannelState, addr: u8, ep: u8) -> bool
+        ensures { result ≡ can_take self.now addr ep x channel.now }
+    {
+        channel.asks(addr, ep) && is_sent(&self.sent_from(x, channel))
     }
 
     fn sent_by(&self, x: u8) -> HostSent
         requires { x < FS4.channels }
         ensures { result ≡ sent_by self.now x (channel_at self.now x) }
     {
-        let channel = &self.channels[x as usize];
+        self.sent_from(x, &self.channels[x as usize])
+    }
+
+    fn sent_from(&self, x: u8, channel: &ChannelState) -> HostSent
+        ensures { result ≡ sent_by self.now x channel.now }
+    {
         if channel.is_in() {
             HostSent::In
         } else {

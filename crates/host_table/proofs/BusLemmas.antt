@@ -12,7 +12,7 @@ use Rattle.host_table.specs.Bus.{Outcome, acked, naked, stalled, unanswered, wro
 use Rattle.host_table.specs.Laws.{OthersSame, AnswerLeaves, BusLeavesOthers, DisabledIsSilent, DetachDisables, GoesOn, NakLeaves, Halted, HaltsOrLands, EndsHalt}
 use Rattle.host_table.proofs.CountLemmas.{removed}
 use Rattle.host_table.proofs.WriteLemmas.{set_leaves, removal_leaves, unchanged_leaves}
-use Rattle.host_table.proofs.TakerLemmas.{taker_enabled, taker_inside, none_enabled, lowest-interrupts, kept-interrupts, hctsiz-interrupts}
+use Rattle.host_table.proofs.TakerLemmas.{taker_enabled, taker_inside, none_enabled, sent_with, lowest-interrupts, kept-interrupts, hctsiz-interrupts}
 
 -- Other channels.
 
@@ -73,10 +73,6 @@ detach_disables t = record { channels = λ x. none_enabled t.channels x; idle = 
 
 -- A NAK.
 
--- what a channel sends, by the parts that say it
-abbrev sent_with : Table → ℕ → ℕ → ℕ → HostSent
-sent_with t x kept hctsiz = sent_by t x (record no_channel { kept = kept; hctsiz = hctsiz })
-
 sent_same : (t : Table) (x y : ℕ) (it : Interrupts) → offer_of (goes_on t x it) (Some y) ≡ offer_of t (Some y)
 sent_same t x y it = ap₂ (λ k s. sent_with t y k s) (kept-interrupts t.channels x y it) (hctsiz-interrupts t.channels x y it)
 
@@ -87,7 +83,7 @@ offer_same t x it (Some y) = sent_same t x y it
 again : (t : Table) (x addr ep : ℕ) (it : Interrupts) → offer (goes_on t x it) addr ep ≡ offer t addr ep
 again t x addr ep it =
     let Taker : Option ℕ → Option ℕ = λ o. if t.port.pena then o else None in
-    ap (λ o. offer_of (goes_on t x it) (Taker o)) (lowest-interrupts 0 addr ep t.channels x it) ∙ offer_same t x it (taker t addr ep)
+    ap (λ o. offer_of (goes_on t x it) (Taker o)) (lowest-interrupts t (goes_on t x it) 0 addr ep t.channels x it (λ y kept hctsiz. refl)) ∙ offer_same t x it (taker t addr ep)
 
 still : (t : Table) (addr ep : ℕ) → GoesOn t t addr ep
 still t addr ep = record { again = refl; nonperiodic = refl; periodic = refl; rx = refl }

@@ -1,11 +1,12 @@
 -- Which channel takes the bus.
-use Rattle.std.proofs.Common.{◌≡◌, ℕ, zero, suc, ◌+◌, ◌<◌, List, [], ◌∷◌, length, true, false, Option, Some, None, inl, inr, refl, ap, sym, ◌∙◌, arith}
-use Rattle.std.specs.Prelude.{if◌then◌else◌, slice_index_or, slice_set, is_some, map}
+use Rattle.std.proofs.Common.{◌≡◌, ℕ, zero, suc, ◌+◌, ◌<◌, List, [], ◌∷◌, length, Bool, true, false, Option, Some, None, inl, inr, refl, ap, ap₂, sym, ◌∙◌, arith}
+use Rattle.std.specs.Prelude.{◌&&◌, if◌then◌else◌, slice_index_or, slice_set, is_some, map}
 use Rattle.std.proofs.lemmas.Bool.{cases_Bool, and_parts, false≢true, cond-true, cond-false}
+use Rattle.host_table.specs.declared.sent.HostSent.{HostSent}
 use Rattle.host_table.specs.State.{Table, Channel, Interrupts, no_channel, channel_at}
 use Rattle.host_table.specs.Words.{speaks_to}
-use Rattle.host_table.specs.Bus.{asks, lowest_from, taker, disabled}
-use Rattle.host_table.specs.Laws.{IsLowest, LowestTakes}
+use Rattle.host_table.specs.Bus.{sent_by, asks, is_sent, can_take, lowest_from, taker, disabled}
+use Rattle.host_table.specs.Laws.{IsLowest, LowestTakes, LowestIsTaker, NobodyTakes}
 
 abbrev number_in : Option ℕ → ℕ
 number_in None = 0
@@ -14,12 +15,39 @@ number_in (Some n) = n
 no_number : (x : ℕ) → None ≡ Some x → ⊥
 no_number x e = false≢true (ap (λ (o : Option ℕ). is_some o) e)
 
--- a channel so many places from the first on asks, and none before it does
-record Stands (number addr ep x : ℕ) (channels : List Channel) : Type 0 where
+-- Number and place of a channel, in a row of channels of which the first has this number.
+
+from_next : (number at : ℕ) → suc number + at ≡ number + suc at
+from_next number at = omega arith
+
+from_first : (number : ℕ) → number + 0 ≡ number
+from_first number = omega arith
+
+abbrev takes_at : Table → ℕ → ℕ → ℕ → List Channel → ℕ → Bool
+takes_at t number addr ep channels at = can_take t addr ep (number + at) (slice_index_or channels at no_channel)
+
+takes_next : (t : Table) (number addr ep at : ℕ) (channel : Channel) (channels : List Channel)
+    → takes_at t (suc number) addr ep channels at ≡ takes_at t number addr ep (channel ∷ channels) (suc at)
+takes_next t number addr ep at channel channels =
+    ap (λ n. can_take t addr ep n (slice_index_or channels at no_channel)) (from_next number at)
+
+takes_first : (t : Table) (number addr ep : ℕ) (channel : Channel) (channels : List Channel)
+    → takes_at t number addr ep (channel ∷ channels) 0 ≡ can_take t addr ep number channel
+takes_first t number addr ep channel channels = ap (λ n. can_take t addr ep n channel) (from_first number)
+
+-- in the row of all channels number and place are the same
+at_zero : (t : Table) (addr ep x : ℕ) → takes_at t 0 addr ep t.channels x ≡ can_take t addr ep x (channel_at t x)
+at_zero t addr ep x = ap (λ n. can_take t addr ep n (channel_at t x)) (from_zero x)
+  where
+    from_zero : (n : ℕ) → 0 + n ≡ n
+    from_zero n = omega arith
+
+-- a channel so many places from the first on can take the bus, and none before it can
+record Stands (t : Table) (number addr ep x : ℕ) (channels : List Channel) : Type 0 where
   at : ℕ
   place : x ≡ number + at
-  has : asks addr ep (slice_index_or channels at no_channel) ≡ true
-  lower : (y : ℕ) → y < at → asks addr ep (slice_index_or channels y no_channel) ≡ false
+  has : takes_at t number addr ep channels at ≡ true
+  lower : (y : ℕ) → y < at → takes_at t number addr ep channels y ≡ false
 
 none_below : (y : ℕ) → y < 0 → ⊥
 none_below y h = omega arith
@@ -27,51 +55,100 @@ none_below y h = omega arith
 below : (y n : ℕ) → suc y < suc n → y < n
 below y n h = omega arith
 
-lower_ones : (addr ep at : ℕ) (channel : Channel) (channels : List Channel) → asks addr ep channel ≡ false
-    → ((y : ℕ) → y < at → asks addr ep (slice_index_or channels y no_channel) ≡ false)
-    → (y : ℕ) → y < suc at → asks addr ep (slice_index_or (channel ∷ channels) y no_channel) ≡ false
-lower_ones addr ep at channel channels not_it lower zero h = not_it
-lower_ones addr ep at channel channels not_it lower (suc y) h = lower y (below y at h)
+lower_ones : (t : Table) (number addr ep at : ℕ) (channel : Channel) (channels : List Channel) → can_take t addr ep number channel ≡ false
+    → ((y : ℕ) → y < at → takes_at t (suc number) addr ep channels y ≡ false)
+    → (y : ℕ) → y < suc at → takes_at t number addr ep (channel ∷ channels) y ≡ false
+lower_ones t number addr ep at channel channels not_it lower zero h = takes_first t number addr ep channel channels ∙ not_it
+lower_ones t number addr ep at channel channels not_it lower (suc y) h =
+    sym (takes_next t number addr ep y channel channels) ∙ lower y (below y at h)
 
 moved : (x number at : ℕ) → x ≡ suc number + at → x ≡ number + suc at
 moved x number at e = omega arith
 
-stands : (number addr ep x : ℕ) (channels : List Channel) → lowest_from number addr ep channels ≡ Some x → Stands number addr ep x channels
-stands number addr ep x [] e = absurd (no_number x e)
-stands number addr ep x (channel ∷ channels) e = elim (cases_Bool (asks addr ep channel)) [
+stands : (t : Table) (number addr ep x : ℕ) (channels : List Channel) → lowest_from t number addr ep channels ≡ Some x → Stands t number addr ep x channels
+stands t number addr ep x [] e = absurd (no_number x e)
+stands t number addr ep x (channel ∷ channels) e = elim (cases_Bool (can_take t addr ep number channel)) [
   | inl it ↦
-      let here : number ≡ x = ap number_in (sym (cond-true (asks addr ep channel) (Some number) (lowest_from (suc number) addr ep channels) it) ∙ e) in
-      record { at = 0; place = omega (arith, here); has = it; lower = λ y h. absurd (none_below y h) }
+      let here : number ≡ x = ap number_in (sym (cond-true (can_take t addr ep number channel) (Some number) (lowest_from t (suc number) addr ep channels) it) ∙ e) in
+      record {
+        at = 0;
+        place = omega (arith, here);
+        has = takes_first t number addr ep channel channels ∙ it;
+        lower = λ y h. absurd (none_below y h);
+      }
   | inr not_it ↦
-      let rest = stands (suc number) addr ep x channels (sym (cond-false (asks addr ep channel) (Some number) (lowest_from (suc number) addr ep channels) not_it) ∙ e) in
+      let rest = stands t (suc number) addr ep x channels (sym (cond-false (can_take t addr ep number channel) (Some number) (lowest_from t (suc number) addr ep channels) not_it) ∙ e) in
       record {
         at = suc rest.at;
         place = moved x number rest.at rest.place;
-        has = rest.has;
-        lower = lower_ones addr ep rest.at channel channels not_it rest.lower;
+        has = sym (takes_next t number addr ep rest.at channel channels) ∙ rest.has;
+        lower = lower_ones t number addr ep rest.at channel channels not_it rest.lower;
       }
 ]
 
-at_place : (t : Table) (addr ep x : ℕ) → t.port.pena ≡ true → Stands 0 addr ep x t.channels → IsLowest t addr ep x
+at_place : (t : Table) (addr ep x : ℕ) → t.port.pena ≡ true → Stands t 0 addr ep x t.channels → IsLowest t addr ep x
 at_place t addr ep x on st =
     let same : st.at ≡ x = omega (arith, st.place) in
     record {
       port = on;
-      has = ap (λ n. asks addr ep (channel_at t n)) (sym same) ∙ st.has;
-      lower = λ y h. st.lower y (omega (arith, same));
+      has = ap (λ n. can_take t addr ep n (channel_at t n)) (sym same) ∙ sym (at_zero t addr ep st.at) ∙ st.has;
+      lower = λ y h. sym (at_zero t addr ep y) ∙ st.lower y (omega (arith, same));
     }
 
 pub lowest_takes : LowestTakes
 lowest_takes t addr ep x e = elim (cases_Bool t.port.pena) [
-  | inl on ↦ at_place t addr ep x on (stands 0 addr ep x t.channels (sym (cond-true t.port.pena (lowest_from 0 addr ep t.channels) None on) ∙ e))
-  | inr off ↦ absurd (no_number x (sym (cond-false t.port.pena (lowest_from 0 addr ep t.channels) None off) ∙ e))
+  | inl on ↦ at_place t addr ep x on (stands t 0 addr ep x t.channels (sym (cond-true t.port.pena (lowest_from t 0 addr ep t.channels) None on) ∙ e))
+  | inr off ↦ absurd (no_number x (sym (cond-false t.port.pena (lowest_from t 0 addr ep t.channels) None off) ∙ e))
 ]
+
+-- the other way round: the lowest that can takes it
+found : (t : Table) (number addr ep at : ℕ) (channels : List Channel) → takes_at t number addr ep channels at ≡ true
+    → ((y : ℕ) → y < at → takes_at t number addr ep channels y ≡ false) → lowest_from t number addr ep channels ≡ Some (number + at)
+found t number addr ep at [] has lower = absurd (false≢true has)
+found t number addr ep zero (channel ∷ channels) has lower =
+    cond-true (can_take t addr ep number channel) (Some number) (lowest_from t (suc number) addr ep channels) (sym (takes_first t number addr ep channel channels) ∙ has)
+    ∙ ap (λ n. Some n) (sym (from_first number))
+found t number addr ep (suc at) (channel ∷ channels) has lower =
+    cond-false (can_take t addr ep number channel) (Some number) (lowest_from t (suc number) addr ep channels) (sym (takes_first t number addr ep channel channels) ∙ lower 0 (first_below at))
+    ∙ found t (suc number) addr ep at channels (takes_next t number addr ep at channel channels ∙ has) (λ y h. takes_next t number addr ep y channel channels ∙ lower (suc y) (above y at h))
+    ∙ ap (λ n. Some n) (from_next number at)
+  where
+    first_below : (n : ℕ) → 0 < suc n
+    first_below n = omega arith
+
+    above : (y n : ℕ) → y < n → suc y < suc n
+    above y n h = omega arith
+
+pub lowest_is_taker : LowestIsTaker
+lowest_is_taker t addr ep x is =
+    cond-true t.port.pena (lowest_from t 0 addr ep t.channels) None is.port ∙ found t 0 addr ep x t.channels (at_zero t addr ep x ∙ is.has) (λ y h. at_zero t addr ep y ∙ is.lower y h)
+    ∙ ap (λ n. Some n) (from_zero x)
+  where
+    from_zero : (n : ℕ) → 0 + n ≡ n
+    from_zero n = omega arith
+
+-- where none can, none does
+none_found : (t : Table) (number addr ep : ℕ) (channels : List Channel) → ((y : ℕ) → takes_at t number addr ep channels y ≡ false) → lowest_from t number addr ep channels ≡ None
+none_found t number addr ep [] none = refl
+none_found t number addr ep (channel ∷ channels) none =
+    cond-false (can_take t addr ep number channel) (Some number) (lowest_from t (suc number) addr ep channels) (sym (takes_first t number addr ep channel channels) ∙ none 0)
+    ∙ none_found t (suc number) addr ep channels (λ y. takes_next t number addr ep y channel channels ∙ none (suc y))
+
+pub nobody_takes : NobodyTakes
+nobody_takes t addr ep = record {
+  port = λ off. cond-false t.port.pena (lowest_from t 0 addr ep t.channels) None off;
+  channels = λ none. elim (cases_Bool t.port.pena) [
+    | inl on ↦ cond-true t.port.pena (lowest_from t 0 addr ep t.channels) None on ∙ none_found t 0 addr ep t.channels (λ y. at_zero t addr ep y ∙ none y)
+    | inr off ↦ cond-false t.port.pena (lowest_from t 0 addr ep t.channels) None off
+  ];
+}
 
 -- the channel that takes the bus is enabled
 pub taker_enabled : (t : Table) (addr ep x : ℕ) → taker t addr ep ≡ Some x → (channel_at t x).enabled ≡ true
 taker_enabled t addr ep x e =
     let c = channel_at t x in
-    (and_parts c.enabled (speaks_to addr ep c) (lowest_takes t addr ep x e).has).0
+    let asked : asks addr ep c ≡ true = (and_parts (asks addr ep c) (is_sent (sent_by t x c)) (lowest_takes t addr ep x e).has).0 in
+    (and_parts c.enabled (speaks_to addr ep c) asked).0
 
 -- and is one that the controller has
 enabled_inside : (channels : List Channel) (x : ℕ) → (slice_index_or channels x no_channel).enabled ≡ true → x < length channels
@@ -93,13 +170,29 @@ none_enabled (channel ∷ channels) (suc x) = none_enabled channels x
 abbrev pub with_interrupts : List Channel → ℕ → Interrupts → List Channel
 with_interrupts channels x it = slice_set channels x (record (slice_index_or channels x no_channel) { interrupts = it })
 
-pub lowest-interrupts : (number addr ep : ℕ) (channels : List Channel) (x : ℕ) (it : Interrupts)
-    → lowest_from number addr ep (with_interrupts channels x it) ≡ lowest_from number addr ep channels
-lowest-interrupts number addr ep [] x it = refl
-lowest-interrupts number addr ep (channel ∷ channels) zero it = refl
-lowest-interrupts number addr ep (channel ∷ channels) (suc x) it =
-    let Lowest : Option ℕ → Option ℕ = λ rest. if asks addr ep channel then Some number else rest in
-    ap Lowest (lowest-interrupts (suc number) addr ep channels x it)
+-- what a channel sends, by the parts that say it
+abbrev pub sent_with : Table → ℕ → ℕ → ℕ → HostSent
+sent_with t x kept hctsiz = sent_by t x (record no_channel { kept = kept; hctsiz = hctsiz })
+
+lowest-fifos : (t new : Table) (number addr ep : ℕ) (channels : List Channel)
+    → ((y kept hctsiz : ℕ) → sent_with new y kept hctsiz ≡ sent_with t y kept hctsiz)
+    → lowest_from new number addr ep channels ≡ lowest_from t number addr ep channels
+lowest-fifos t new number addr ep [] same = refl
+lowest-fifos t new number addr ep (channel ∷ channels) same =
+    let Lowest : HostSent → Option ℕ → Option ℕ = λ s rest. if asks addr ep channel && is_sent s then Some number else rest in
+    ap₂ Lowest (same number channel.kept channel.hctsiz) (lowest-fifos t new (suc number) addr ep channels same)
+
+-- by what a channel sends, which depends on the FIFOs, its control word and its transfer size
+pub lowest-interrupts : (t new : Table) (number addr ep : ℕ) (channels : List Channel) (x : ℕ) (it : Interrupts)
+    → ((y kept hctsiz : ℕ) → sent_with new y kept hctsiz ≡ sent_with t y kept hctsiz)
+    → lowest_from new number addr ep (with_interrupts channels x it) ≡ lowest_from t number addr ep channels
+lowest-interrupts t new number addr ep [] x it same = refl
+lowest-interrupts t new number addr ep (channel ∷ channels) zero it same =
+    let Lowest : HostSent → Option ℕ → Option ℕ = λ s rest. if asks addr ep channel && is_sent s then Some number else rest in
+    ap₂ Lowest (same number channel.kept channel.hctsiz) (lowest-fifos t new (suc number) addr ep channels same)
+lowest-interrupts t new number addr ep (channel ∷ channels) (suc x) it same =
+    let Lowest : HostSent → Option ℕ → Option ℕ = λ s rest. if asks addr ep channel && is_sent s then Some number else rest in
+    ap₂ Lowest (same number channel.kept channel.hctsiz) (lowest-interrupts t new (suc number) addr ep channels x it same)
 
 pub kept-interrupts : (channels : List Channel) (x y : ℕ) (it : Interrupts)
     → (slice_index_or (with_interrupts channels x it) y no_channel).kept ≡ (slice_index_or channels y no_channel).kept

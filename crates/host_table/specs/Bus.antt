@@ -40,20 +40,8 @@ reset_asked t = t.port.reset_driven
 abbrev pub after_reset_asked : Table → Table
 after_reset_asked t = record t { port = record t.port { reset_driven = false } }
 
--- Who takes the bus: with PENA the lowest enabled channel to that address and endpoint.
-
-abbrev pub asks : ℕ → ℕ → Channel → Bool
-asks addr ep channel = channel.enabled && speaks_to addr ep channel
-
-abbrev pub lowest_from : ℕ → ℕ → ℕ → List Channel → Option ℕ
-lowest_from number addr ep [] = None
-lowest_from number addr ep (channel ∷ channels) =
-    if asks addr ep channel then Some number else lowest_from (suc number) addr ep channels
-
-abbrev pub taker : Table → ℕ → ℕ → Option ℕ
-taker t addr ep = if t.port.pena then lowest_from 0 addr ep t.channels else None
-
--- What it sends: an IN token, or its whole packet. A packet of no bytes has no words in a FIFO and counts as whole.
+-- What a channel has to send: an IN token, or its whole packet. A packet of no bytes has no words in a FIFO and counts as
+-- whole.
 
 -- the transmit FIFO's first whole packet of the channel
 abbrev pub packet_in : Table → ℕ → Channel → Option (List ℕ)
@@ -78,6 +66,29 @@ sent_where_ready channel (Some bytes) = packet_sent channel bytes
 
 abbrev pub sent_by : Table → ℕ → Channel → HostSent
 sent_by t x channel = if is_in channel then sent.In else sent_where_ready channel (packet_ready t x channel)
+
+-- Who takes the bus: with PENA the lowest enabled channel to that address and endpoint that has what it needs. An IN channel
+-- needs nothing more, a SETUP or OUT channel its whole packet.
+
+abbrev pub asks : ℕ → ℕ → Channel → Bool
+asks addr ep channel = channel.enabled && speaks_to addr ep channel
+
+abbrev pub is_sent : HostSent → Bool
+is_sent sent.Idle = false
+is_sent (sent.Setup bytes) = true
+is_sent (sent.Out toggle bytes) = true
+is_sent sent.In = true
+
+abbrev pub can_take : Table → ℕ → ℕ → ℕ → Channel → Bool
+can_take t addr ep x channel = asks addr ep channel && is_sent (sent_by t x channel)
+
+abbrev pub lowest_from : Table → ℕ → ℕ → ℕ → List Channel → Option ℕ
+lowest_from t number addr ep [] = None
+lowest_from t number addr ep (channel ∷ channels) =
+    if can_take t addr ep number channel then Some number else lowest_from t (suc number) addr ep channels
+
+abbrev pub taker : Table → ℕ → ℕ → Option ℕ
+taker t addr ep = if t.port.pena then lowest_from t 0 addr ep t.channels else None
 
 abbrev pub offer_of : Table → Option ℕ → HostSent
 offer_of t None = sent.Idle

@@ -94,6 +94,10 @@ three_senders =
 abbrev pub three_sent : Table
 three_sent = word_after_word 16 (word_after_word 16 (word_after_word 16 three_senders 0x1000) 0x2000) 0x3000
 
+-- channels 1 and 3 go to endpoint 2: channel 1 lacks its packet, and that of channel 3 has no bytes
+abbrev pub upper_ready : Table
+upper_ready = writes three_senders ((0x560, 0x800c1040) ∷ (0x570, 0x40080000) ∷ [])
+
 pub record OtherPackets : Type 0 where
   pub size_0 : offer (writes at_reset ((0x510, 0x60080008) ∷ (0x500, 0x80000000) ∷ two_words)) 0 0 ≡ sent.Setup setup
   pub size_above : offer (word_after_word 16 (writes at_reset ((0x510, 0x00080064) ∷ (0x500, 0x80000065) ∷ [])) 0x1000) 0 0 ≡ sent.Out D0 (replicate 64 0x11)
@@ -107,6 +111,11 @@ pub record OtherPackets : Type 0 where
   pub room_again : offer (word_after_word 16 (after_xact three_sent 0 1 answers.Ack) 0x3000) 0 3 ≡ sent.Out D0 (replicate 64 0x11)
   -- of two channels to one endpoint the lower one takes the bus
   pub lower : offer (writes three_sent ((0x560, 0x800c1040) ∷ (0x570, 0x40080000) ∷ [])) 0 2 ≡ sent.Out D0 (replicate 64 0x11)
+  -- but the upper one while the lower one lacks its packet, and the answer is the upper one's
+  pub upper : offer upper_ready 0 2 ≡ sent.Out D1 []
+  pub upper_answered : read_value (after_xact upper_ready 0 2 answers.Ack) 0x568 ≡ 0x00000023
+  pub lower_waits : read_value (after_xact upper_ready 0 2 answers.Ack) 0x528 ≡ 0
+  pub lower_enabled : read_value (after_xact upper_ready 0 2 answers.Ack) 0x520 ≡ 0x800c1040
 
 -- What the other answers do to that SETUP: NAK; STALL and CHH; TXERR and CHH where nothing fits.
 pub record SetupAnswered : Type 0 where

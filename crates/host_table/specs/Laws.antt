@@ -15,7 +15,7 @@ use Rattle.host_table.specs.State.{Table, Port, Channel, first, opened, channel_
 use Rattle.host_table.specs.Words.{kept_bits, port_bits, is_periodic, is_nonperiodic}
 use Rattle.host_table.specs.Read.{value_read, after_read, received_all}
 use Rattle.host_table.specs.Write.{after_write, packet_length, drives_reset}
-use Rattle.host_table.specs.Bus.{asks, taker, offer, after_xact, after_attach, after_detach, data_landed}
+use Rattle.host_table.specs.Bus.{can_take, taker, offer, after_xact, after_attach, after_detach, data_landed}
 
 -- What is read back.
 
@@ -91,14 +91,25 @@ BusLeavesOthers =
 
 -- Who takes the bus.
 
--- the port is enabled, the channel is enabled and speaks to that address and endpoint, and no lower one does
+-- the port is enabled, the channel can take the bus, and no lower one can
 pub record IsLowest (t : Table) (addr ep x : ℕ) : Type 0 where
   pub port : t.port.pena ≡ true
-  pub has : asks addr ep (channel_at t x) ≡ true
-  pub lower : (y : ℕ) → y < x → asks addr ep (channel_at t y) ≡ false
+  pub has : can_take t addr ep x (channel_at t x) ≡ true
+  pub lower : (y : ℕ) → y < x → can_take t addr ep y (channel_at t y) ≡ false
 
 abbrev pub LowestTakes : Type 0
 LowestTakes = (t : Table) (addr ep x : ℕ) → taker t addr ep ≡ Some x → IsLowest t addr ep x
+
+abbrev pub LowestIsTaker : Type 0
+LowestIsTaker = (t : Table) (addr ep x : ℕ) → IsLowest t addr ep x → taker t addr ep ≡ Some x
+
+-- and where none can, or the port isn't enabled, none takes it
+pub record Nobody (t : Table) (addr ep : ℕ) : Type 0 where
+  pub port : t.port.pena ≡ false → taker t addr ep ≡ None
+  pub channels : ((x : ℕ) → can_take t addr ep x (channel_at t x) ≡ false) → taker t addr ep ≡ None
+
+abbrev pub NobodyTakes : Type 0
+NobodyTakes = (t : Table) (addr ep : ℕ) → Nobody t addr ep
 
 -- no answer reaches a channel that isn't enabled
 abbrev pub DisabledIsSilent : Type 0

@@ -1,5 +1,5 @@
 //! Laws of the controller's steps. The functions do nothing.
-ghost use Rattle.host_table.specs.Laws.{PlainReadsBack, ChannelReadsBack, CountsAreKept, BeyondReadsNothing, OthersStay, ReadsLeave, BusLeavesOthers, LowestTakes, DisabledIsSilent, DetachDisables, NakLeaves, OnePacketEach, EndsHalt, WrittenStands, SetupsAreEight, LandingComesOut, ResetEnables, KeptBits};
+ghost use Rattle.host_table.specs.Laws.{PlainReadsBack, ChannelReadsBack, CountsAreKept, BeyondReadsNothing, OthersStay, ReadsLeave, BusLeavesOthers, LowestTakes, LowestIsTaker, NobodyTakes, DisabledIsSilent, DetachDisables, NakLeaves, OnePacketEach, EndsHalt, WrittenStands, SetupsAreEight, LandingComesOut, ResetEnables, KeptBits};
 ghost use Rattle.host_table.specs.Examples.{PortReset, SetupSent, OtherPackets, SetupAnswered, DescriptorComes, InAnswered, Detached, PacketsStand, FullFifo, DeviceRegisters, OpenedWords, LargeWords};
 
 /// A register that keeps what is written reads as it was written: masks, sizes of FIFOs, configurations, and the mask and
@@ -28,10 +28,13 @@ pub fn bus_leaves_others()
     ensures { BusLeavesOthers }
 {}
 
-/// The channel that takes the bus is the lowest one that is enabled and speaks to that address and endpoint, on an enabled
-/// port. A channel that isn't enabled gets no answer.
+/// The channel that takes the bus is the lowest one that is enabled, speaks to that address and endpoint and has what it
+/// needs, on an enabled port; where there is one it takes the bus, and else none does. A channel that isn't enabled gets no
+/// answer.
 pub fn lowest_channel_takes()
     ensures lowest { LowestTakes }
+    ensures taken { LowestIsTaker }
+    ensures nobody { NobodyTakes }
     ensures disabled { DisabledIsSilent }
 {}
 
