@@ -4,3 +4,5 @@ pub mod WindowLemmas
 pub mod WriteLemmas
 pub mod TakerLemmas
 pub mod BusLemmas
+pub mod AnswerLemmas
+pub mod AccessLemmas

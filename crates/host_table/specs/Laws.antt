@@ -11,7 +11,7 @@ use Rattle.device_table.specs.Words.{pid_of, status_word, out_data, out_done}
 use Rattle.device_table.specs.Laws.{is_plain}
 use Rattle.device_table.specs.Bus.{out_entries}
 use Rattle.host_table.specs.declared.sent.HostSent.TheVariants as sent
-use Rattle.host_table.specs.State.{Table, Port, Channel, first, opened, channel_at}
+use Rattle.host_table.specs.State.{Table, Port, Channel, first, opened, channel_at, rx_depth, nonperiodic_depth, periodic_depth}
 use Rattle.host_table.specs.Words.{kept_bits, port_bits, is_periodic, is_nonperiodic}
 use Rattle.host_table.specs.Read.{value_read, after_read, received_all}
 use Rattle.host_table.specs.Write.{after_write, packet_length, drives_reset}
@@ -32,11 +32,15 @@ ChannelReadsBack =
     → (value_read (after_write t (hcintmsk x) word) (hcintmsk x) ≡ word)
     × (value_read (after_write t (hctsiz x) word) (hctsiz x) ≡ word)
 
--- a controller has as many endpoints, sizes of their FIFOs and channels as its profile says
+-- a controller has as many endpoints, sizes of their FIFOs and channels as its profile says, and FIFOs of the plan
 pub record IsOf (profile : Profile) (t : Table) : Type 0 where
   pub ins : length t.device.ins ≡ profile.in_eps + 1
   pub outs : length t.device.outs ≡ profile.out_eps + 1
+  pub sizes : length t.kept.dieptxfs ≡ profile.in_eps
   pub channels : length t.channels ≡ profile.channels
+  pub rx : t.rx.depth ≡ rx_depth profile
+  pub nonperiodic : t.nonperiodic.depth ≡ nonperiodic_depth profile
+  pub periodic : t.periodic.depth ≡ periodic_depth profile
 
 abbrev pub CountsAreKept : Type 0
 CountsAreKept = (profile : Profile) → IsOf profile (first profile) × IsOf profile (opened profile)
@@ -75,10 +79,6 @@ WriteLeaves (Some x) old new = OthersSame x old new × (new.rx ≡ old.rx)
 
 abbrev pub OthersStay : Type 0
 OthersStay = (register : Register) (t : Table) (word : ℕ) → WriteLeaves (whose register) t (after_write t register word)
-
--- a read of a channel's register changes nothing
-abbrev pub ReadsLeave : Type 0
-ReadsLeave = (x : ℕ) (t : Table) → (after_read t (hcchar x) ≡ t) × (after_read t (hcint x) ≡ t) × (after_read t (hcintmsk x) ≡ t) × (after_read t (hctsiz x) ≡ t)
 
 -- an answer changes the channel that takes the bus, and where none does, nothing
 abbrev pub AnswerLeaves : Option ℕ → Table → Table → Type 0

@@ -5,4 +5,6 @@ pub mod Write
 pub mod Bus
 pub mod Bank
 pub mod Laws
+pub mod AnswerLaws
+pub mod AccessLaws
 pub mod Examples

@@ -1,5 +1,7 @@
 //! Laws of the controller's steps. The functions do nothing.
-ghost use Rattle.host_table.specs.Laws.{PlainReadsBack, ChannelReadsBack, CountsAreKept, BeyondReadsNothing, OthersStay, ReadsLeave, BusLeavesOthers, LowestTakes, LowestIsTaker, NobodyTakes, DisabledIsSilent, DetachDisables, NakLeaves, OnePacketEach, EndsHalt, WrittenStands, SetupsAreEight, LandingComesOut, ResetEnables, KeptBits};
+ghost use Rattle.host_table.specs.Laws.{PlainReadsBack, ChannelReadsBack, CountsAreKept, BeyondReadsNothing, OthersStay, BusLeavesOthers, LowestTakes, LowestIsTaker, NobodyTakes, DisabledIsSilent, DetachDisables, NakLeaves, OnePacketEach, EndsHalt, WrittenStands, SetupsAreEight, LandingComesOut, ResetEnables, KeptBits};
+ghost use Rattle.host_table.specs.AnswerLaws.{AnswersAct};
+ghost use Rattle.host_table.specs.AccessLaws.{ReadsLeave, ReadsTake, StatusStays, SizesAreKept, ControlActs, PrstResets, CountsStay, AccessesAreListed};
 ghost use Rattle.host_table.specs.Examples.{PortReset, SetupSent, OtherPackets, SetupAnswered, DescriptorComes, InAnswered, Detached, PacketsStand, FullFifo, DeviceRegisters, OpenedWords, LargeWords};
 
 /// A register that keeps what is written reads as it was written: masks, sizes of FIFOs, configurations, and the mask and
@@ -13,14 +15,47 @@ pub fn kept_registers_read_back()
 /// beyond them read 0.
 pub fn profile_counts()
     ensures counts { CountsAreKept }
+    ensures stay { CountsStay }
     ensures beyond { BeyondReadsNothing }
 {}
 
-/// An access to one channel's registers or FIFO window leaves all other channels with their packets, the port and the
+/// A write to one channel's registers or FIFO window leaves all other channels with their packets, the port and the
 /// receive FIFO.
 pub fn other_channels_stay()
-    ensures writes { OthersStay }
-    ensures reads { ReadsLeave }
+    ensures { OthersStay }
+{}
+
+/// A read changes nothing but for GRXSTSP and window 0, which take from the receive FIFO: an entry, or a word of it. The end
+/// of a channel's data sets ACK, XFRC and CHH of that channel as it is popped.
+pub fn reads_take_entries()
+    ensures leave { ReadsLeave }
+    ensures take { ReadsTake }
+{}
+
+/// Status registers aren't written, and the sizes that endpoints keep are read back.
+pub fn writes_are_kept()
+    ensures status { StatusStays }
+    ensures sizes { SizesAreKept }
+{}
+
+/// What a write of HCCHARx does, with CHENA, with CHDIS, with both and with neither.
+pub fn channel_control_acts()
+    ensures { ControlActs }
+{}
+
+/// PRST written 1 and then 0 drives a reset exactly where a device is attached.
+pub fn prst_drives_reset()
+    ensures { PrstResets }
+{}
+
+/// Each access is a step of the table, is listed with its value, and is one of 400.
+pub fn accesses_are_listed()
+    ensures { AccessesAreListed }
+{}
+
+/// What each answer does to the channel that took the bus: its interrupts, CHENA, its packet and the receive FIFO.
+pub fn answers_act()
+    ensures { AnswersAct }
 {}
 
 /// An answer changes the channel that took the bus, and what lies in the receive FIFO, and nothing else.
