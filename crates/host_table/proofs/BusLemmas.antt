@@ -12,7 +12,7 @@ use Rattle.host_table.specs.Bus.{Outcome, acked, naked, stalled, unanswered, wro
 use Rattle.host_table.specs.Laws.{OthersSame, AnswerLeaves, BusLeavesOthers, DisabledIsSilent, DetachDisables, GoesOn, NakLeaves, Halted, HaltsOrLands, EndsHalt}
 use Rattle.host_table.proofs.CountLemmas.{removed}
 use Rattle.host_table.proofs.WriteLemmas.{set_leaves, removal_leaves, unchanged_leaves}
-use Rattle.host_table.proofs.TakerLemmas.{taker_enabled, taker_inside, none_enabled, sent_with, lowest-interrupts, kept-interrupts, hctsiz-interrupts}
+use Rattle.host_table.proofs.TakerLemmas.{taker_enabled, taker_inside, none_enabled, others_kept, sent_with, lowest-interrupts, kept-interrupts, hctsiz-interrupts}
 
 -- Other channels.
 
@@ -69,7 +69,7 @@ disabled_is_silent t addr ep x answered h = silent t x answered (taker t addr ep
 -- A detach.
 
 pub detach_disables : DetachDisables
-detach_disables t = record { channels = λ x. none_enabled t.channels x; idle = λ addr ep. refl; port = refl }
+detach_disables t = record { channels = λ x. none_enabled t.channels x; idle = λ addr ep. refl; port = refl; others = λ x. others_kept t.channels x; rest = refl }
 
 -- A NAK.
 

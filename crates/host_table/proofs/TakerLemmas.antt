@@ -165,6 +165,12 @@ none_enabled [] x = refl
 none_enabled (channel ∷ channels) zero = refl
 none_enabled (channel ∷ channels) (suc x) = none_enabled channels x
 
+pub others_kept : (channels : List Channel) (x : ℕ)
+    → slice_index_or (map disabled channels) x no_channel ≡ record (slice_index_or channels x no_channel) { enabled = false }
+others_kept [] x = refl
+others_kept (channel ∷ channels) zero = refl
+others_kept (channel ∷ channels) (suc x) = others_kept channels x
+
 -- Interrupts alone change in one channel.
 
 abbrev pub with_interrupts : List Channel → ℕ → Interrupts → List Channel

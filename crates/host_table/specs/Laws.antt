@@ -122,9 +122,20 @@ pub record Detaches (t : Table) : Type 0 where
   pub channels : (x : ℕ) → (channel_at (after_detach t) x).enabled ≡ false
   pub idle : (addr ep : ℕ) → offer (after_detach t) addr ep ≡ sent.Idle
   pub port : (after_detach t).port ≡ record t.port { pcsts = false; pena = false; discint = true }
+  -- and all else stays: the other bits of the channels, their interrupts and packets, and what was received
+  pub others : (x : ℕ) → channel_at (after_detach t) x ≡ record (channel_at t x) { enabled = false }
+  pub rest : after_detach t ≡ record t { port = (after_detach t).port; channels = (after_detach t).channels }
 
 abbrev pub DetachDisables : Type 0
 DetachDisables = (t : Table) → Detaches t
+
+-- an attach sets PCSTS and PCDET where PCSTS is 0, and changes nothing else
+pub record Attaches (t : Table) : Type 0 where
+  pub new : t.port.pcsts ≡ false → after_attach t ≡ record t { port = record t.port { pcsts = true; pcdet = true } }
+  pub old : t.port.pcsts ≡ true → after_attach t ≡ t
+
+abbrev pub AttachTells : Type 0
+AttachTells = (t : Table) → Attaches t
 
 -- What answers do.
 

@@ -8,3 +8,6 @@ pub mod Laws
 pub mod AnswerLaws
 pub mod AccessLaws
 pub mod Examples
+pub mod AnswerExamples
+pub mod RegisterExamples
+pub mod TransferExamples

@@ -1,7 +1,10 @@
 //! Laws of the controller's steps. The functions do nothing.
-ghost use Rattle.host_table.specs.Laws.{PlainReadsBack, ChannelReadsBack, CountsAreKept, BeyondReadsNothing, OthersStay, BusLeavesOthers, LowestTakes, LowestIsTaker, NobodyTakes, DisabledIsSilent, DetachDisables, NakLeaves, OnePacketEach, EndsHalt, WrittenStands, SetupsAreEight, LandingComesOut, ResetEnables, KeptBits};
+ghost use Rattle.host_table.specs.Laws.{PlainReadsBack, ChannelReadsBack, CountsAreKept, BeyondReadsNothing, OthersStay, BusLeavesOthers, LowestTakes, LowestIsTaker, NobodyTakes, DisabledIsSilent, DetachDisables, AttachTells, NakLeaves, OnePacketEach, EndsHalt, WrittenStands, SetupsAreEight, LandingComesOut, ResetEnables, KeptBits};
 ghost use Rattle.host_table.specs.AnswerLaws.{AnswersAct};
 ghost use Rattle.host_table.specs.AccessLaws.{ReadsLeave, ReadsTake, StatusStays, SizesAreKept, ControlActs, PrstResets, CountsStay, AccessesAreListed};
+ghost use Rattle.host_table.specs.AnswerExamples.{EachType, SentWords};
+ghost use Rattle.host_table.specs.RegisterExamples.{StartWords, KeptWords, PortWords, ChannelWords, Flushes, ReceivedWords, DetachLeaves, EndWords};
+ghost use Rattle.host_table.specs.TransferExamples.{BulkComes, TwoChannels};
 ghost use Rattle.host_table.specs.Examples.{PortReset, SetupSent, OtherPackets, SetupAnswered, DescriptorComes, InAnswered, Detached, PacketsStand, FullFifo, DeviceRegisters, OpenedWords, LargeWords};
 
 /// A register that keeps what is written reads as it was written: masks, sizes of FIFOs, configurations, and the mask and
@@ -73,9 +76,14 @@ pub fn lowest_channel_takes()
     ensures disabled { DisabledIsSilent }
 {}
 
-/// A detach disables all channels and the port.
+/// A detach disables all channels and the port, and leaves all else.
 pub fn detach_disables()
     ensures { DetachDisables }
+{}
+
+/// An attach sets PCSTS and PCDET where no device is attached, and else changes nothing.
+pub fn attach_tells()
+    ensures { AttachTells }
 {}
 
 /// A NAK leaves the packet, which is sent again.
@@ -135,4 +143,36 @@ pub fn worked_answers()
 pub fn worked_profiles()
     ensures words { OpenedWords }
     ensures large { LargeWords }
+{}
+
+/// What every register of an `FS4` reads at the start, once opened, and once each has a word of its own.
+pub fn worked_registers()
+    ensures start { StartWords }
+    ensures kept { KeptWords }
+{}
+
+/// Which bits of HPRT and HCINTx a 1 clears, and which interrupts HCINTMSKx and HAINTMSK let through.
+pub fn worked_bits()
+    ensures port { PortWords }
+    ensures channels { ChannelWords }
+{}
+
+/// What a flush, a pop and a detach empty and leave, and the device's registers.
+pub fn worked_fifos()
+    ensures flushes { Flushes }
+    ensures received { ReceivedWords }
+    ensures detach { DetachLeaves }
+    ensures ends { EndWords }
+{}
+
+/// Each answer on OUT, SETUP and IN channels of each type, and what is sent to whom.
+pub fn worked_types()
+    ensures types { EachType }
+    ensures sent { SentWords }
+{}
+
+/// Bulk data from device 5, from the attach to the popped words, and three channels to one device.
+pub fn worked_transfers()
+    ensures bulk { BulkComes }
+    ensures two { TwoChannels }
 {}
