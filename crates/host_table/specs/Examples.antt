@@ -101,6 +101,9 @@ upper_ready = writes three_senders ((0x560, 0x800c1040) ∷ (0x570, 0x40080000) 
 pub record OtherPackets : Type 0 where
   pub size_0 : offer (writes at_reset ((0x510, 0x60080008) ∷ (0x500, 0x80000000) ∷ two_words)) 0 0 ≡ sent.Setup setup
   pub size_above : offer (word_after_word 16 (writes at_reset ((0x510, 0x00080064) ∷ (0x500, 0x80000065) ∷ [])) 0x1000) 0 0 ≡ sent.Out D0 (replicate 64 0x11)
+  -- the transfer size has 19 bits
+  pub many_bytes : offer (word_after_word 16 (writes at_reset ((0x510, 0x00080100) ∷ (0x500, 0x80000040) ∷ [])) 0x1000) 0 0 ≡ sent.Out D0 (replicate 64 0x11)
+  pub most_bytes : offer (word_after_word 16 (writes at_reset ((0x510, 0x00040000) ∷ (0x500, 0x80000040) ∷ [])) 0x1000) 0 0 ≡ sent.Out D0 (replicate 64 0x11)
   pub cut : offer (writes at_reset ((0x510, 0x00080012) ∷ (0x500, 0x80000008) ∷ two_words)) 0 0 ≡ sent.Out D0 setup
   pub four_bytes : offer (writes at_reset ((0x510, 0x60080004) ∷ (0x500, 0x80000040) ∷ (0x1000, 0x01000680) ∷ [])) 0 0 ≡ sent.Idle
   pub begun_anew : offer (writes at_half ((0x500, 0xc0000040) ∷ two_words)) 0 0 ≡ sent.Setup setup
