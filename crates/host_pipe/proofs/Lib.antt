@@ -1,0 +1,4 @@
+pub mod Out
+pub mod In
+pub mod Still
+pub mod Rows

@@ -1,0 +1,9 @@
+pub mod Tries
+pub mod OutPipe
+pub mod InPipe
+pub mod OutLink
+pub mod InLink
+pub mod Laws
+pub mod Steps
+pub mod OutExamples
+pub mod InExamples
