@@ -1,7 +1,7 @@
 -- What single accesses do, and what every step keeps.
-use Rattle.std.proofs.Common.{◌≡◌, ℕ, zero, suc, ◌-◌, List, [], ◌∷◌, ◌++◌, length, Bool, true, false, Option, Some, None, inl, inr, refl, ap, sym, ◌∙◌, arith, length-set, append_assoc, append-nil}
+use Rattle.std.proofs.Common.{◌≡◌, ◌≢◌, ℕ, zero, suc, ◌-◌, List, [], ◌∷◌, ◌++◌, length, Bool, true, false, Option, Some, None, inl, inr, refl, ap, sym, ◌∙◌, arith, length-set, append_assoc, append-nil}
 use Rattle.std.specs.Prelude.{◌==◌, ◌&&◌, ◌||◌, not, nat_lt, map}
-use Rattle.std.proofs.lemmas.Bool.{cases_Bool, true≢false, false≢true}
+use Rattle.std.proofs.lemmas.Bool.{cases_Bool, true≢false, false≢true, ne_eqb}
 use Rattle.usb_packet.specs.declared.bus.BusAnswer.{BusAnswer}
 use Rattle.dwc2_regs.specs.declared.access.Access.{Access}
 use Rattle.dwc2_regs.specs.declared.access.Profile.{Profile}
@@ -10,7 +10,7 @@ use Rattle.dwc2_regs.specs.Field.{field_of}
 use Rattle.dwc2_regs.specs.Register.{Register, grstctl, gintsts, gintmsk, grxstsr, grxstsp, grxfsiz, dieptxf0, hptxfsiz, hcfg, haint, haintmsk, hprt, dcfg, dctl, dsts, diepmsk, doepmsk, daint, daintmsk, diepempmsk, dieptxf, hcchar, hcint, hcintmsk, hctsiz, diepctl, diepint, dieptsiz, dtxfsts, doepctl, doepint, doeptsiz, fifo}
 use Rattle.dwc2_fifo.specs.Rx.{Entry}
 use Rattle.dwc2_fifo.specs.Tx.{Begun, Tx, begun_in, with_word_in, bytes_with}
-use Rattle.device_table.specs.Words.{flag, out_data, out_done, kind_of, number_of}
+use Rattle.device_table.specs.Words.{flag, out_done, kind_of, number_of}
 use Rattle.host_table.specs.State.{Table, Channel, Interrupts, channel_at, with_channel}
 use Rattle.host_table.specs.Words.{is_periodic, is_nonperiodic}
 use Rattle.host_table.specs.Read.{after_read, end_popped, entry_popped, received_all}
@@ -58,9 +58,9 @@ reads_leave (doeptsiz x) t h = refl
 reads_leave (fifo zero) t h = absurd (true≢false h)
 reads_leave (fifo (suc x)) t h = refl
 
-popped_data : (t : Table) (left : List ℕ) (entry : Entry) (entries : List Entry) → kind_of entry.status ≡ out_data
+popped_data : (t : Table) (left : List ℕ) (entry : Entry) (entries : List Entry) → kind_of entry.status ≢ out_done
     → after_read (with_rx t left (entry ∷ entries)) grxstsp ≡ with_rx t entry.words entries
-popped_data t left entry entries e = rw e refl
+popped_data t left entry entries h = rw (ne_eqb (kind_of entry.status) out_done h) refl
 
 popped_end : (t : Table) (left : List ℕ) (entry : Entry) (entries : List Entry) → kind_of entry.status ≡ out_done
     → after_read (with_rx t left (entry ∷ entries)) grxstsp

@@ -8,13 +8,15 @@ use Rattle.host_table.specs.State.{Table, Channel, no_channel, channel_at, with_
 use Rattle.host_table.specs.Words.{is_periodic, is_nonperiodic}
 use Rattle.host_table.specs.Write.{packet_removed, packet_removed_if, channel_written, interrupts_written, word_written}
 use Rattle.host_table.specs.Laws.{OthersSame, OthersStay}
-use Rattle.host_table.proofs.FifoLemmas.{without_first-other, pushed-other}
+use Rattle.host_table.proofs.FifoLemmas.{without_first-other, pushed-other, begun_without-other, pushed-begun}
 
 pub set_leaves : (t : Table) (x : ℕ) (channel : Channel) → OthersSame x t (with_channel t x channel)
 set_leaves t x channel = record {
   channels = λ y h. get_or-set_other t.channels x y channel no_channel h;
   nonperiodic = λ y h. refl;
   periodic = λ y h. refl;
+  nonperiodic_begun = λ y h. refl;
+  periodic_begun = λ y h. refl;
   port = refl;
   kept = refl;
   host = refl;
@@ -26,6 +28,8 @@ removal_leaves t x channel = record {
   channels = λ y h. get_or-set_other t.channels x y channel no_channel h;
   nonperiodic = λ y h. without_first-other x y t.nonperiodic.packets h;
   periodic = λ y h. without_first-other x y t.periodic.packets h;
+  nonperiodic_begun = λ y h. begun_without-other x y t.nonperiodic.unfinished h;
+  periodic_begun = λ y h. begun_without-other x y t.periodic.unfinished h;
   port = refl;
   kept = refl;
   host = refl;
@@ -42,6 +46,8 @@ nothing_leaves t x = record {
   channels = λ y h. refl;
   nonperiodic = λ y h. refl;
   periodic = λ y h. refl;
+  nonperiodic_begun = λ y h. refl;
+  periodic_begun = λ y h. refl;
   port = refl;
   kept = refl;
   host = refl;
@@ -58,6 +64,8 @@ word_leaves t x channel word = elim (cases_Bool (is_periodic channel)) [
       channels = λ y h. refl;
       nonperiodic = λ y h. refl;
       periodic = λ y h. pushed-other channel x word y t.periodic h;
+      nonperiodic_begun = λ y h. refl;
+      periodic_begun = λ y h. pushed-begun channel x word y t.periodic h;
       port = refl;
       kept = refl;
       host = refl;
@@ -71,6 +79,8 @@ word_leaves t x channel word = elim (cases_Bool (is_periodic channel)) [
         channels = λ y h. refl;
         nonperiodic = λ y h. pushed-other channel x word y t.nonperiodic h;
         periodic = λ y h. refl;
+        nonperiodic_begun = λ y h. pushed-begun channel x word y t.nonperiodic h;
+        periodic_begun = λ y h. refl;
         port = refl;
         kept = refl;
         host = refl;

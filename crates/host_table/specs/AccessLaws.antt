@@ -1,12 +1,12 @@
 -- What single accesses do, and what every step keeps.
-use Rattle.std.specs.Prelude.{◌≡◌, ℕ, zero, ◌-◌, ◌^◌, ◌<◌, ◌||◌, Bool, true, false, if◌then◌else◌, List, [], ◌∷◌, length}
+use Rattle.std.specs.Prelude.{◌≡◌, ◌≢◌, ℕ, zero, ◌-◌, ◌^◌, ◌<◌, ◌||◌, Bool, true, false, if◌then◌else◌, List, [], ◌∷◌, length}
 use Rattle.usb_packet.specs.declared.bus.BusAnswer.{BusAnswer}
 use Rattle.dwc2_regs.specs.declared.access.Access.{Access}
 use Rattle.dwc2_regs.specs.declared.access.Profile.{Profile}
 use Rattle.dwc2_regs.specs.declared.TheConstants.{HPRT_PRST, HCCHAR_CHDIS, HCCHAR_CHENA}
 use Rattle.dwc2_regs.specs.Register.{Register, grxstsr, grxstsp, haint, hprt, dsts, daint, hcchar, dieptsiz, dtxfsts, doeptsiz, fifo}
 use Rattle.dwc2_fifo.specs.Rx.{Entry}
-use Rattle.device_table.specs.Words.{flag, out_data, out_done, kind_of, number_of}
+use Rattle.device_table.specs.Words.{flag, out_done, kind_of, number_of}
 use Rattle.host_table.specs.State.{Table, channel_at, with_channel}
 use Rattle.host_table.specs.Words.{kept_bits}
 use Rattle.host_table.specs.Read.{value_read, after_read, read_value, read_table}
@@ -37,7 +37,7 @@ told_end t x = with_channel t x (record (channel_at t x) { interrupts = record (
 pub record Takes (t : Table) (left : List ℕ) (entry : Entry) (entries : List Entry) (word : ℕ) (words : List ℕ) : Type 0 where
   -- GRXSTSP gives the front entry's status, and its words are left in place of those of the entry before
   pub status : value_read (with_rx t left (entry ∷ entries)) grxstsp ≡ entry.status
-  pub content : kind_of entry.status ≡ out_data → after_read (with_rx t left (entry ∷ entries)) grxstsp ≡ with_rx t entry.words entries
+  pub content : kind_of entry.status ≢ out_done → after_read (with_rx t left (entry ∷ entries)) grxstsp ≡ with_rx t entry.words entries
   pub end : kind_of entry.status ≡ out_done → after_read (with_rx t left (entry ∷ entries)) grxstsp ≡ told_end (with_rx t entry.words entries) (number_of entry.status)
   -- where there is none it gives 0 and changes nothing
   pub no_status : value_read (with_rx t left []) grxstsp ≡ 0

@@ -122,6 +122,7 @@ pub record SentWords : Type 0 where
   pub no_count : offer (sized 2 0x00000005) 5 1 ≡ sent.Out D0 (1 ∷ 2 ∷ 3 ∷ 4 ∷ 5 ∷ [])
   -- a size of 0 is a packet of no bytes, and words are dropped
   pub empty : offer (sized 2 0x00080000) 5 1 ≡ sent.Out D0 []
+  pub filled_later : offer (writes (sized 2 0x00080000) ((0x530, 0x00080005) ∷ (0x2000, 0x04030201) ∷ (0x2000, 0x00000005) ∷ [])) 5 1 ≡ sent.Out D0 (1 ∷ 2 ∷ 3 ∷ 4 ∷ 5 ∷ [])
   -- six bytes lack one word of two, and nine one of three
   pub six_bytes : offer (sized 2 0x00080006) 5 1 ≡ sent.Out D0 (1 ∷ 2 ∷ 3 ∷ 4 ∷ 5 ∷ 0 ∷ [])
   pub nine_bytes : offer (sized 2 0x00080009) 5 1 ≡ sent.Idle

@@ -231,11 +231,22 @@ one_fifo =
     writes two_senders
     ((0x540, 0x80000840) ∷ (0x3000, 0x04030201) ∷ (0x4000, 0x14131211) ∷ (0x3000, 0x00000005) ∷ (0x4000, 0x24232221) ∷ (0x4000, 0x00000025) ∷ [])
 
+-- its first word alone
+abbrev pub half_shared : Table
+half_shared = writes two_senders ((0x540, 0x80000840) ∷ (0x3000, 0x04030201) ∷ [])
+
 pub record PacketsStand : Type 0 where
   pub periodic : offer interleaved 0 1 ≡ sent.Out D0 (1 ∷ 2 ∷ 3 ∷ 4 ∷ 5 ∷ [])
   pub bulk : offer interleaved 0 2 ≡ sent.Out D0 (0x11 ∷ 0x12 ∷ 0x13 ∷ 0x14 ∷ 0x15 ∷ [])
   pub shared : offer one_fifo 0 1 ≡ sent.Out D0 (1 ∷ 2 ∷ 3 ∷ 4 ∷ 5 ∷ [])
   pub dropped : offer one_fifo 0 2 ≡ sent.Out D0 (0x21 ∷ 0x22 ∷ 0x23 ∷ 0x24 ∷ 0x25 ∷ [])
+  -- a disabled channel leaves the packet that another has begun
+  pub others_begun : offer (writes half_shared ((0x560, 0x40081040) ∷ (0x3000, 0x00000005) ∷ [])) 0 1 ≡ sent.Out D0 (1 ∷ 2 ∷ 3 ∷ 4 ∷ 5 ∷ [])
+  -- and a channel that there isn't changes nothing, by its registers and by its window
+  pub beyond_control : write_table half_shared 0x600 0xc0000040 ≡ half_shared
+  pub beyond_mask : write_table half_shared 0x60c 0xffffffff ≡ half_shared
+  pub beyond_size : write_table half_shared 0x610 0x00080005 ≡ half_shared
+  pub beyond_window : write_table interleaved 0x9000 0x01010101 ≡ interleaved
   -- a third word is dropped, since a channel has one packet at a time
   pub one_packet : write_table interleaved 0x3000 0x99999999 ≡ interleaved
   -- CHDIS removes the packet, and with CHENA in the same word enables

@@ -53,12 +53,19 @@ BeyondReadsNothing =
 
 -- Other channels stay.
 
--- all other channels are as they were, with the packets that they have in the transmit FIFOs, and so is all that is no
--- channel's but the receive FIFO
+-- the packet that is begun, where it is the channel's
+abbrev pub begun_with : ℕ → Option Begun → Option Begun
+begun_with y None = None
+begun_with y (Some begun) = if begun.tag == y then Some begun else None
+
+-- all other channels are as they were, with the packets that they have in the transmit FIFOs, whole or begun, and so is all that
+-- is no channel's but the receive FIFO
 pub record OthersSame (x : ℕ) (old new : Table) : Type 0 where
   pub channels : (y : ℕ) → y ≢ x → channel_at new y ≡ channel_at old y
   pub nonperiodic : (y : ℕ) → y ≢ x → first_with y new.nonperiodic.packets ≡ first_with y old.nonperiodic.packets
   pub periodic : (y : ℕ) → y ≢ x → first_with y new.periodic.packets ≡ first_with y old.periodic.packets
+  pub nonperiodic_begun : (y : ℕ) → y ≢ x → begun_with y new.nonperiodic.unfinished ≡ begun_with y old.nonperiodic.unfinished
+  pub periodic_begun : (y : ℕ) → y ≢ x → begun_with y new.periodic.unfinished ≡ begun_with y old.periodic.unfinished
   pub port : new.port ≡ old.port
   pub kept : new.kept ≡ old.kept
   pub host : new.host ≡ old.host
