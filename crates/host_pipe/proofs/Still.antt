@@ -5,6 +5,7 @@ use Rattle.std.specs.Prelude.{nat_le, is_some, ⊤}
 use Rattle.std.proofs.lemmas.Bool.{cases_Bool, true≢false}
 use Rattle.std.proofs.lemmas.List.Elements.{All-head, All-tail}
 use Rattle.usb_packet.specs.declared.bus.Toggle.{Toggle}
+use Rattle.usb_packet.specs.declared.bus.Toggle.TheVariants.{D0}
 use Rattle.usb_packet.specs.declared.bus.BusAnswer.TheVariants as answers
 use Rattle.host_pipe.specs.Tries.{Went, Refused, Lost, most_tries}
 use Rattle.host_pipe.specs.OutPipe as out
@@ -296,3 +297,34 @@ in_dead size (inward.Does inward.Starts ∷ events) toggle tries held all = in_d
 in_dead size (inward.Does (inward.Reads n) ∷ events) toggle tries held all = in_dead size events toggle tries (drop n held) (All-tail ClearsNoIn (inward.Does (inward.Reads n)) events all)
 in_dead size (inward.ClearEnds passed ∷ events) toggle tries held all = in_dead size events toggle tries held (All-tail ClearsNoIn (inward.ClearEnds passed) events all)
 in_dead size (inward.Clears ∷ events) toggle tries held all = elim (All-head ClearsNoIn inward.Clears events all) [ ]
+
+-- a closed pipe, whatever happens
+closed_from : (size capacity : ℕ) (events : List OutEvent) (toggle : Toggle) (tries : ℕ) (pending : List ℕ) (under_way : Option (List ℕ)) (asked : Bool)
+    → out_sent (out.after_events size capacity (out_pipe out.Closed toggle tries pending under_way asked) events) ≡ None
+closed_from size capacity [] toggle tries pending under_way asked = refl
+closed_from size capacity (out.Turn reply ∷ events) toggle tries pending under_way asked = closed_from size capacity events toggle tries pending under_way asked
+closed_from size capacity (out.Does out.Irq ∷ events) toggle tries pending under_way asked = closed_from size capacity events toggle tries pending under_way asked
+closed_from size capacity (out.Does out.Task ∷ events) toggle tries pending under_way asked = closed_from size capacity events toggle tries pending under_way asked
+closed_from size capacity (out.Does out.Starts ∷ events) toggle tries pending under_way asked = closed_from size capacity events toggle tries pending under_way asked
+closed_from size capacity (out.Does (out.Writes bytes) ∷ events) toggle tries pending under_way asked =
+    closed_from size capacity events toggle tries (pending ++ take (capacity - length pending) bytes) under_way asked
+closed_from size capacity (out.Does out.Asks ∷ events) toggle tries pending under_way asked = closed_from size capacity events toggle tries pending under_way true
+closed_from size capacity (out.Clears ∷ events) toggle tries pending under_way asked = closed_from size capacity events toggle tries pending under_way asked
+closed_from size capacity (out.ClearEnds passed ∷ events) toggle tries pending under_way asked = closed_from size capacity events toggle tries pending under_way asked
+
+pub closed : (size capacity : ℕ) (events : List OutEvent) → out_sent (out.after_events size capacity out.closed events) ≡ None
+closed size capacity events = closed_from size capacity events D0 0 [] None false
+
+in_closed_from : (size : ℕ) (events : List InEvent) (toggle : Toggle) (tries : ℕ) (held : List ℕ)
+    → in_sent (inward.after_events size (in_pipe inward.Closed toggle tries held) events) ≡ false
+in_closed_from size [] toggle tries held = refl
+in_closed_from size (inward.Turn reply ∷ events) toggle tries held = in_closed_from size events toggle tries held
+in_closed_from size (inward.Does inward.Irq ∷ events) toggle tries held = in_closed_from size events toggle tries held
+in_closed_from size (inward.Does inward.Task ∷ events) toggle tries held = in_closed_from size events toggle tries held
+in_closed_from size (inward.Does inward.Starts ∷ events) toggle tries held = in_closed_from size events toggle tries held
+in_closed_from size (inward.Does (inward.Reads n) ∷ events) toggle tries held = in_closed_from size events toggle tries (drop n held)
+in_closed_from size (inward.Clears ∷ events) toggle tries held = in_closed_from size events toggle tries held
+in_closed_from size (inward.ClearEnds passed ∷ events) toggle tries held = in_closed_from size events toggle tries held
+
+pub in_closed : (size : ℕ) (events : List InEvent) → in_sent (inward.after_events size inward.closed events) ≡ false
+in_closed size events = in_closed_from size events D0 0 []

@@ -1,7 +1,8 @@
 //! Laws of a host's pipes, by step and over whole runs (USB 2.0, 5.8.3, 8.4.5, 8.6 and 9.4.5). The functions do nothing.
-ghost use Rattle.std.specs.Prelude.{◌≡◌, ◌≤◌, ℕ, List, Bool, false, length, Option, Some, None};
+ghost use Rattle.std.specs.Prelude.{◌≡◌, ◌≤◌, ℕ, ◌-◌, ◌++◌, List, [], Bool, true, false, length, take, drop, Option, Some, None};
 ghost use Rattle.std.specs.List.{All};
 ghost use Rattle.usb_packet.specs.declared.bus.Toggle.{Toggle};
+ghost use Rattle.usb_packet.specs.declared.bus.Toggle.TheVariants.{D0};
 ghost use Rattle.usb_packet.specs.declared.bus.BusAnswer.{BusAnswer};
 ghost use Rattle.host_pipe.specs.Tries.{Note};
 ghost use Rattle.host_pipe.specs.OutPipe as out;
@@ -105,6 +106,32 @@ pub fn clears()
     ensures withdraws_empty { OutWithdrawsEmpty }
     ensures out_ends { (toggle : Toggle) (tries : ℕ) (pending : List ℕ) (under_way : Option (List ℕ)) (asked : Bool) (passed : Bool) (note : Note) (result : OutResult) → OutClearEnds toggle tries pending under_way asked passed note result }
     ensures in_clears { (toggle : Toggle) (tries : ℕ) (held : List ℕ) (passed : Bool) (note : Note) (result : InResult) → InClears toggle tries held passed note result }
+{}
+
+/// A write makes all its bytes pending where there is room for them, and else the front that fits, in every phase. A read takes the
+/// front of what is held. Neither changes anything else. `capacity` is the most bytes that are pending.
+pub fn writes_and_reads()
+    ensures all { (capacity : ℕ) (bytes : List ℕ) (pipe : OutPipe) → length bytes ≤ capacity - length pipe.pending →
+        out.written capacity bytes pipe ≡ record pipe { pending = pipe.pending ++ bytes } }
+    ensures front { (capacity : ℕ) (bytes : List ℕ) (pipe : OutPipe) →
+        out.written capacity bytes pipe ≡ record pipe { pending = pipe.pending ++ take (capacity - length pipe.pending) bytes } }
+    ensures full { (capacity : ℕ) (bytes : List ℕ) (pipe : OutPipe) → length pipe.pending ≤ capacity → capacity - length pipe.pending ≤ length bytes →
+        length (out.written capacity bytes pipe).pending ≡ capacity }
+    ensures event { (size : ℕ) (capacity : ℕ) (bytes : List ℕ) (pipe : OutPipe) →
+        out.after_event size capacity pipe (out.Does (out.Writes bytes)) ≡ out.written capacity bytes pipe }
+    ensures asks { (size : ℕ) (capacity : ℕ) (pipe : OutPipe) → out.after_event size capacity pipe (out.Does out.Asks) ≡ record pipe { asked = true } }
+    ensures reads { (size : ℕ) (n : ℕ) (pipe : InPipe) → inward.after_event size pipe (inward.Does (inward.Reads n)) ≡ record pipe { held = drop n pipe.held } }
+{}
+
+/// A pipe is opened at rest with DATA0, nothing pending, nothing held and no empty packet asked for (9.1.1.5). A closed one sends
+/// nothing, whatever happens.
+pub fn opened_and_closed()
+    ensures out_opened { out.opened ≡ out_pipe out.Rest D0 0 [] None false }
+    ensures in_opened { inward.opened ≡ in_pipe inward.Rest D0 0 [] }
+    ensures out_closed { (size : ℕ) (capacity : ℕ) (events : List OutEvent) → out_sent (out.after_events size capacity out.closed events) ≡ None }
+    ensures in_closed { (size : ℕ) (events : List InEvent) → in_sent (inward.after_events size inward.closed events) ≡ false }
+    ensures held { inward.closed.held ≡ [] }
+    ensures pending { out.closed.pending ≡ [] }
 {}
 
 /// An OUT pipe in the standard's pictures: two successful transactions (8.6.2), data that isn't accepted or is lost (8.6.3), an
