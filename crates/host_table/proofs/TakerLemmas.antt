@@ -1,12 +1,13 @@
 -- Which channel takes the bus.
-use Rattle.std.proofs.Common.{◌≡◌, ℕ, zero, suc, ◌+◌, ◌<◌, List, [], ◌∷◌, length, Bool, true, false, Option, Some, None, inl, inr, refl, ap, ap₂, sym, ◌∙◌, arith}
+use Rattle.std.proofs.Common.{◌≡◌, ℕ, zero, suc, ◌+◌, ◌<◌, List, [], ◌∷◌, length, Bool, true, false, Option, Some, None, ◌⊎◌, inl, inr, refl, ap, ap₂, sym, ◌∙◌, arith}
 use Rattle.std.specs.Prelude.{◌&&◌, if◌then◌else◌, slice_index_or, slice_set, is_some, map}
 use Rattle.std.proofs.lemmas.Bool.{cases_Bool, and_parts, false≢true, cond-true, cond-false}
 use Rattle.host_table.specs.declared.sent.HostSent.{HostSent}
+use Rattle.host_table.specs.declared.sent.HostSent.TheVariants as sent
 use Rattle.host_table.specs.State.{Table, Channel, Interrupts, no_channel, channel_at}
 use Rattle.host_table.specs.Words.{speaks_to}
-use Rattle.host_table.specs.Bus.{sent_by, asks, is_sent, can_take, lowest_from, taker, disabled}
-use Rattle.host_table.specs.Laws.{IsLowest, LowestTakes, LowestIsTaker, NobodyTakes}
+use Rattle.host_table.specs.Bus.{sent_by, asks, is_sent, can_take, lowest_from, taker, offer_of, disabled}
+use Rattle.host_table.specs.Laws.{IsLowest, LowestTakes, LowestIsTaker, NobodyTakes, IdleWhere}
 
 abbrev number_in : Option ℕ → ℕ
 number_in None = 0
@@ -141,6 +142,46 @@ nobody_takes t addr ep = record {
     | inl on ↦ cond-true t.port.pena (lowest_from t 0 addr ep t.channels) None on ∙ none_found t 0 addr ep t.channels (λ y. at_zero t addr ep y ∙ none y)
     | inr off ↦ cond-false t.port.pena (lowest_from t 0 addr ep t.channels) None off
   ];
+}
+
+-- where none does, none can
+none_can : (t : Table) (number addr ep : ℕ) (channels : List Channel) → lowest_from t number addr ep channels ≡ None
+    → (y : ℕ) → takes_at t number addr ep channels y ≡ false
+none_can t number addr ep [] e y = refl
+none_can t number addr ep (channel ∷ channels) e y = elim (cases_Bool (can_take t addr ep number channel)) [
+  | inl it ↦ absurd (no_number number (sym e ∙ cond-true (can_take t addr ep number channel) (Some number) (lowest_from t (suc number) addr ep channels) it))
+  | inr not_it ↦
+      none_can_from t number addr ep y channel channels not_it
+      (none_can t (suc number) addr ep channels (sym (cond-false (can_take t addr ep number channel) (Some number) (lowest_from t (suc number) addr ep channels) not_it) ∙ e))
+]
+  where
+    none_can_from : (t : Table) (number addr ep y : ℕ) (channel : Channel) (channels : List Channel) → can_take t addr ep number channel ≡ false
+        → ((z : ℕ) → takes_at t (suc number) addr ep channels z ≡ false) → takes_at t number addr ep (channel ∷ channels) y ≡ false
+    none_can_from t number addr ep zero channel channels not_it rest = takes_first t number addr ep channel channels ∙ not_it
+    none_can_from t number addr ep (suc y) channel channels not_it rest = sym (takes_next t number addr ep y channel channels) ∙ rest y
+
+none_takes : (t : Table) (addr ep : ℕ) → taker t addr ep ≡ None → (t.port.pena ≡ false) ⊎ ((x : ℕ) → can_take t addr ep x (channel_at t x) ≡ false)
+none_takes t addr ep e = elim (cases_Bool t.port.pena) [
+  | inl on ↦
+      let none = none_can t 0 addr ep t.channels (sym (cond-true t.port.pena (lowest_from t 0 addr ep t.channels) None on) ∙ e) in
+      inr (λ x. sym (at_zero t addr ep x) ∙ none x)
+  | inr off ↦ inl off
+]
+
+-- the channel that takes the bus sends something
+idle_none : (t : Table) (addr ep : ℕ) (o : Option ℕ) → taker t addr ep ≡ o → offer_of t o ≡ sent.Idle
+    → (t.port.pena ≡ false) ⊎ ((x : ℕ) → can_take t addr ep x (channel_at t x) ≡ false)
+idle_none t addr ep None e idle = none_takes t addr ep e
+idle_none t addr ep (Some x) e idle =
+    let c = channel_at t x in
+    let sends : is_sent (sent_by t x c) ≡ true = (and_parts (asks addr ep c) (is_sent (sent_by t x c)) (lowest_takes t addr ep x e).has).1 in
+    absurd (false≢true (sym (ap (λ (s : HostSent). is_sent s) idle) ∙ sends))
+
+pub idle_where : IdleWhere
+idle_where t addr ep = record {
+  only = λ idle. idle_none t addr ep (taker t addr ep) refl idle;
+  port = λ off. ap (λ (o : Option ℕ). offer_of t o) ((nobody_takes t addr ep).port off);
+  channels = λ none. ap (λ (o : Option ℕ). offer_of t o) ((nobody_takes t addr ep).channels none);
 }
 
 -- the channel that takes the bus is enabled

@@ -118,6 +118,15 @@ pub record Nobody (t : Table) (addr ep : ℕ) : Type 0 where
 abbrev pub NobodyTakes : Type 0
 NobodyTakes = (t : Table) (addr ep : ℕ) → Nobody t addr ep
 
+-- so the host is idle exactly where the port isn't enabled or no channel can take the bus
+pub record Idles (t : Table) (addr ep : ℕ) : Type 0 where
+  pub only : offer t addr ep ≡ sent.Idle → (t.port.pena ≡ false) ⊎ ((x : ℕ) → can_take t addr ep x (channel_at t x) ≡ false)
+  pub port : t.port.pena ≡ false → offer t addr ep ≡ sent.Idle
+  pub channels : ((x : ℕ) → can_take t addr ep x (channel_at t x) ≡ false) → offer t addr ep ≡ sent.Idle
+
+abbrev pub IdleWhere : Type 0
+IdleWhere = (t : Table) (addr ep : ℕ) → Idles t addr ep
+
 -- no answer reaches a channel that isn't enabled
 abbrev pub DisabledIsSilent : Type 0
 DisabledIsSilent =

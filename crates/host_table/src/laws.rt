@@ -1,5 +1,5 @@
 //! Laws of the controller's steps. The functions do nothing.
-ghost use Rattle.host_table.specs.Laws.{PlainReadsBack, ChannelReadsBack, CountsAreKept, BeyondReadsNothing, OthersStay, BusLeavesOthers, LowestTakes, LowestIsTaker, NobodyTakes, DisabledIsSilent, DetachDisables, AttachTells, NakLeaves, OnePacketEach, EndsHalt, WrittenStands, SetupsAreEight, LandingComesOut, ResetEnables, KeptBits};
+ghost use Rattle.host_table.specs.Laws.{PlainReadsBack, ChannelReadsBack, CountsAreKept, BeyondReadsNothing, OthersStay, BusLeavesOthers, LowestTakes, LowestIsTaker, NobodyTakes, IdleWhere, DisabledIsSilent, DetachDisables, AttachTells, NakLeaves, OnePacketEach, EndsHalt, WrittenStands, SetupsAreEight, LandingComesOut, ResetEnables, KeptBits};
 ghost use Rattle.host_table.specs.AnswerLaws.{AnswersAct};
 ghost use Rattle.host_table.specs.AccessLaws.{ReadsLeave, ReadsTake, StatusStays, SizesAreKept, ControlActs, PrstResets, CountsStay, AccessesAreListed};
 ghost use Rattle.host_table.specs.AnswerExamples.{EachType, SentWords};
@@ -67,12 +67,13 @@ pub fn bus_leaves_others()
 {}
 
 /// The channel that takes the bus is the lowest one that is enabled, speaks to that address and endpoint and has what it
-/// needs, on an enabled port; where there is one it takes the bus, and else none does. A channel that isn't enabled gets no
-/// answer.
+/// needs, on an enabled port; where there is one it takes the bus, and else none does and the host is idle. A channel that isn't
+/// enabled gets no answer.
 pub fn lowest_channel_takes()
     ensures lowest { LowestTakes }
     ensures taken { LowestIsTaker }
     ensures nobody { NobodyTakes }
+    ensures idle { IdleWhere }
     ensures disabled { DisabledIsSilent }
 {}
 
