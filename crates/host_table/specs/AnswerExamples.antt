@@ -128,6 +128,7 @@ pub record SentWords : Type 0 where
   pub nine_bytes : offer (sized 2 0x00080009) 5 1 ≡ sent.Idle
   -- type 1 has no FIFO
   pub no_fifo : offer (sized 1 0x00080005) 5 1 ≡ sent.Idle
+  pub no_fifo_words : sized 1 0x00080005 ≡ writes at_reset ((0x530, 0x00080005) ∷ (0x520, chena + out_control 1) ∷ [])
   pub no_fifo_empty : offer (sized 1 0x00080000) 5 1 ≡ sent.Out D0 []
   pub no_fifo_in : offer (in_sender 1) 5 0x81 ≡ sent.In
   -- a channel that isn't enabled sends nothing, and no answer reaches it; nor does one without PENA
