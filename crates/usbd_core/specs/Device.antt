@@ -32,12 +32,12 @@ pub record Device : Type 0 where
   -- the control transfer that runs
   pub transfer : Transfer
 
--- the transfer that the software keeps
-abbrev pub transfer_of : declared.Transfer → Transfer
-transfer_of transfer.Idle = Idle
-transfer_of (transfer.Data packets) = Sending packets
-transfer_of transfer.Status = Ending
-transfer_of (transfer.Address n) = Addressing n
+-- the transfer that the software keeps, with the packets that it has for a data stage
+abbrev pub transfer_of : declared.Transfer → List (List ℕ) → Transfer
+transfer_of transfer.Idle packets = Idle
+transfer_of transfer.Data packets = Sending packets
+transfer_of transfer.Status packets = Ending
+transfer_of (transfer.Address n) packets = Addressing n
 
 -- what the bus sees of it
 abbrev pub bus_of : Device → Bus

@@ -1,4 +1,4 @@
-ghost use Rattle.std.specs.Prelude.{◌≡◌, ◌≤◌, ◌*◌, ◌+◌, length, take};
+ghost use Rattle.std.specs.Prelude.{◌≡◌, ◌≤◌, ◌*◌, ◌+◌, [], length, take};
 ghost use Rattle.device_machine.specs.Packets.{data_packets, packet_count, packet_at, packet_size};
 
 use arrayvec::ArrayVec;
@@ -28,20 +28,28 @@ impl DataStage {
     ghost use Rattle.device_machine.specs.Bus.{is_empty};
     ghost use Rattle.usbd_core.specs.Stage.{first_of, rest_of};
 
-    #[tactic(auto, using(crate::proofs::Packets::packets_of))]
-    /// A data stage with these bytes, of which the host allows so many.
-    #[inline(always)]
-    pub fn new(bytes: ArrayVec<u8, 512>, allowed: u16) -> DataStage
-        ensures { result ≡ data_packets bytes.items allowed }
+    /// A data stage that is over.
+    pub fn new() -> DataStage
+        ensures { result ≡ [] }
     {
-        let mut bytes = bytes;
-        bytes.truncate(usize::from(allowed));
-        let left = packet_count(bytes.as_slice(), allowed);
         DataStage {
-            bytes,
+            bytes: ArrayVec::new(),
             next: 0,
-            left,
+            left: 0,
         }
+    }
+
+    #[tactic(auto, using(crate::proofs::Packets::packets_of))]
+    /// Begins again with these bytes, of which the host allows so many. They are copied once, and no room is moved.
+    pub fn begin(&mut self, bytes: &[u8], allowed: u16)
+        requires { length bytes.now ≤ 512 }
+        ensures { self.new ≡ data_packets bytes.now allowed }
+    {
+        let cut = cut(bytes, allowed);
+        self.bytes.clear();
+        let _ = self.bytes.try_extend_from_slice(cut);
+        self.next = 0;
+        self.left = packet_count(cut, allowed);
     }
 
     /// Whether each packet was handed over.
@@ -65,6 +73,14 @@ impl DataStage {
         self.left -= 1;
         Some(packet)
     }
+}
+
+/// The bytes that the host allows.
+fn cut(bytes: &[u8], allowed: u16) -> &[u8]
+    ensures { result.now ≡ take allowed bytes.now }
+{
+    let n = bytes.len().min(usize::from(allowed));
+    &bytes[..n]
 }
 
 /// How many packets a data stage of these bytes has, where the host allows so many.

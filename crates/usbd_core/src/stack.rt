@@ -8,6 +8,7 @@ ghost use Rattle.dwc2_device.specs.Driver.{Has, Spends};
 ghost use Rattle.usbd_core.specs.Device.{tops, core_of, Agrees};
 ghost use Rattle.usbd_core.specs.Hears.{forgotten, sent, after_note};
 
+use crate::data::DataStage;
 use crate::transfer::Transfer;
 use device_machine::Stage;
 use dwc2_access::Regs;
@@ -37,6 +38,8 @@ pub struct DevStack<R: Regs> {
     pub(crate) finished: Option<Stage>,
     pub(crate) request: Option<[u8; 8]>,
     pub(crate) transfer: Transfer,
+    /// The packets of a data stage for the host that weren't handed over.
+    pub(crate) stage: DataStage,
 }
 
 impl<R: Regs> Model for DevStack<R> {
@@ -44,7 +47,7 @@ impl<R: Regs> Model for DevStack<R> {
 
     ghost Value = { Device };
 
-    ghost view = { λ d. record { set = d.set; port = d.port; state = d.state; finished = d.finished; request = d.request; transfer = transfer_of d.transfer } };
+    ghost view = { λ d. record { set = d.set; port = d.port; state = d.state; finished = d.finished; request = d.request; transfer = transfer_of d.transfer d.stage } };
 }
 
 impl<R: Regs + Drop> DevStack<R> {
@@ -82,6 +85,7 @@ impl<R: Regs + Drop> DevStack<R> {
             finished: None,
             request: None,
             transfer: Transfer::Idle,
+            stage: DataStage::new(),
         })
     }
 

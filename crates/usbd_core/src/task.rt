@@ -1,5 +1,5 @@
 //! A task run.
-ghost use Rattle.std.specs.Prelude.{◌≡◌, ◌+◌, ◌<◌, ◌≤◌, [], None, false, if◌then◌else◌};
+ghost use Rattle.std.specs.Prelude.{◌≡◌, ◌+◌, ◌<◌, ◌≤◌, [], length, None, false, if◌then◌else◌};
 ghost use Rattle.usb_control.specs.Table.{choice};
 ghost use Rattle.usb_descriptor.specs.Served.{AreServed};
 ghost use Rattle.device_machine.specs.declared.control.Stage.TheVariants.{Sent};
@@ -13,7 +13,6 @@ ghost use Rattle.usbd_core.specs.Device.{core_of, port_in, address_of, tops, Fit
 ghost use Rattle.usbd_core.specs.Task.{IsFree, IsFreeFor, Needs, Leaves, with_endpoints};
 
 use crate::DevStack;
-use crate::data::DataStage;
 use crate::halted::halted_after;
 use crate::transfer::Transfer;
 use arrayvec::ArrayVec;
@@ -84,10 +83,10 @@ impl<R: Regs + Drop> DevStack<R> {
         ensures free { IsFree (port_in self.new) }
         ensures leaves { Leaves FS4 2 self.old self.new }
     {
-        match &mut self.transfer {
-            Transfer::Data(stage) => match stage.take_packet() {
+        match self.transfer {
+            Transfer::Data => match self.stage.take_packet() {
                 Some(packet) => {
-                    let last = stage.is_over();
+                    let last = self.stage.is_over();
                     self.port.start_ep0(&packet, last);
                 }
                 None => self.transfer = Transfer::Idle,
@@ -103,10 +102,11 @@ impl<R: Regs + Drop> DevStack<R> {
         ensures core { core_of self.new ≡ begun self.old.set (core_of self.old) (choice self.old.set (state_of (core_of self.old)) setup.now) setup.now.length }
         ensures leaves { Leaves FS4 38 self.old self.new }
     {
-        match decide(&self.set, &self.state, setup) {
+        let choice = decide(&self.set, &self.state, setup);
+        match &choice {
             Choice::Own(decision, effect) => {
-                self.stage(decision, effect, setup.length);
-                self.change(effect);
+                self.stage(decision, *effect, setup.length);
+                self.change(*effect);
             }
             Choice::Class(_) => self.refuse(),
         }
@@ -114,15 +114,15 @@ impl<R: Regs + Drop> DevStack<R> {
 
     /// The first stage of a request.
     #[inline(always)]
-    fn stage(&mut self, decision: Decision, effect: Effect, allowed: u16)
+    fn stage(&mut self, decision: &Decision, effect: Effect, allowed: u16)
         requires needs { Needs FS4 2 self.old }
         requires free { IsFree (port_in self.old) }
         requires address { IsAddress (address_of (ending effect)) }
-        ensures core { core_of self.new ≡ staged (core_of self.old) decision effect allowed }
+        ensures core { core_of self.new ≡ staged (core_of self.old) decision.now effect allowed }
         ensures leaves { Leaves FS4 2 self.old self.new }
     {
         match decision {
-            Decision::Data(bytes) => self.give(bytes, allowed),
+            Decision::Data(bytes) => self.give(bytes.as_slice(), allowed),
             Decision::Status => self.acknowledge(effect),
             Decision::Take(_) | Decision::Stall => self.refuse(),
         }
@@ -167,17 +167,18 @@ impl<R: Regs + Drop> DevStack<R> {
     }
 
     /// The first stage of a request with data for the host, of which it allows so many bytes.
-    #[inline(always)]
-    fn give(&mut self, bytes: ArrayVec<u8, 512>, allowed: u16)
+    fn give(&mut self, bytes: &[u8], allowed: u16)
+        requires few { length bytes.now ≤ 512 }
         requires needs { Needs FS4 2 self.old }
         requires free { IsFree (port_in self.old) }
-        ensures core { core_of self.new ≡ with_data (core_of self.old) bytes.items allowed }
+        ensures core { core_of self.new ≡ with_data (core_of self.old) bytes.now allowed }
         ensures leaves { Leaves FS4 2 self.old self.new }
     {
         if allowed == 0 {
             self.give_status();
         } else {
-            self.transfer = Transfer::Data(DataStage::new(bytes, allowed));
+            self.stage.begin(bytes, allowed);
+            self.transfer = Transfer::Data;
             self.send();
         }
     }

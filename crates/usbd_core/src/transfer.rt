@@ -1,12 +1,10 @@
-use crate::data::DataStage;
-
 /// The control transfer that runs (USB 2.0, 8.5.3).
 #[derive(Drop)]
 pub enum Transfer {
     /// None.
     Idle,
-    /// A data stage for the host, with the packets that weren't handed over.
-    Data(DataStage),
+    /// A data stage for the host.
+    Data,
     /// A status stage for the host.
     Status,
     /// That of SET_ADDRESS, with the address (9.4.6).

@@ -16,7 +16,7 @@ returns-clause-core g c =
       halted = h;
       finished = s.finished;
       request = s.request;
-      transfer = transfer_of s.transfer;
+      transfer = transfer_of s.transfer s.stage;
     } in
     ap with (c.halted_after-halted.ensures ∙ ap (λ (h : List ℕ). halted_after s.set h c.args.effect) c.as_slice.ensures.value)
     ∙ ap (λ (d : Device). with_halts d.set (core_of d) c.args.effect) c.self.view_is

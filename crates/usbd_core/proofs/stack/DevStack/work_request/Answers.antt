@@ -17,7 +17,7 @@ returns-in-Some-clause-core g c =
       halted = s.state.halted.items;
       finished = s.finished;
       request = r;
-      transfer = transfer_of s.transfer;
+      transfer = transfer_of s.transfer s.stage;
     } in
     c.begin.ensures.core
     ∙ request_worked s.set (with s.request) (with c.take.new.self) c.in-Some.bytes c.setup_of.result (sym c.in-Some.ensures.value) (ap with c.in-Some.ensures.after) c.setup_of.ensures.fields
