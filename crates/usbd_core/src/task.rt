@@ -47,13 +47,16 @@ impl<R: Regs + Drop> DevStack<R> {
         ensures free { IsFreeFor self.new.request (port_in self.new) }
         ensures leaves { Leaves FS4 2 self.old self.new }
     {
-        if self.finished.is_none() {
-            return;
-        }
-        match self.finished.take() {
-            Some(Stage::Sent) => self.send(),
-            Some(Stage::Came(_)) => self.transfer = Transfer::Idle,
+        match self.finished {
             None => {}
+            Some(Stage::Sent) => {
+                self.finished = None;
+                self.send();
+            }
+            Some(Stage::Came(_)) => {
+                self.finished = None;
+                self.transfer = Transfer::Idle;
+            }
         }
     }
 
