@@ -17,12 +17,28 @@ pub const MOST_ANSWER: usize = 8200;
 
 /// Appends the line of what a device answers on the bus, with its newline. A run appends this, and a reply, without an
 /// `Answer`, which has room for the longest one.
+#[inline(always)]
 pub fn push_bus_line<const N: usize>(out: &mut ArrayVec<u8, N>, answer: &BusAnswer)
     requires { array_vec_len out.old + MOST_ANSWER ≤ N }
     ensures items { out.new.items ≡ out.old.items ++ (answer_text (TheBus answer.now) ++ newline ∷ []) }
     ensures length { array_vec_len out.new ≤ array_vec_len out.old + MOST_ANSWER }
 {
-    push_bus(out, answer);
+    match answer {
+        BusAnswer::Done => push_text(out, b"ok\n"),
+        BusAnswer::Ack => push_text(out, b"ack\n"),
+        BusAnswer::Nak => push_text(out, b"nak\n"),
+        BusAnswer::Stall => push_text(out, b"stall\n"),
+        BusAnswer::NoAnswer => push_text(out, b"none\n"),
+        BusAnswer::Data(toggle, packet) => push_data_line(out, *toggle, packet),
+    }
+}
+
+fn push_data_line<const N: usize>(out: &mut ArrayVec<u8, N>, toggle: Toggle, packet: &Packet)
+    requires { array_vec_len out.old + MOST_ANSWER ≤ N }
+    ensures items { out.new.items ≡ out.old.items ++ (spaced (data_name toggle ∷ hex packet.now ∷ []) ++ newline ∷ []) }
+    ensures length { array_vec_len out.new ≤ array_vec_len out.old + MOST_ANSWER }
+{
+    push_data(out, toggle, packet);
     out.push(b'\n');
 }
 
