@@ -1,5 +1,5 @@
 -- The addresses that requests bring, and the notes that a task leaves.
-use Rattle.std.proofs.Common.{◌≡◌, ℕ, ◌<◌, List, [], ◌∷◌, Bool, true, false, Option, Some, None, cond, refl, ap, sym, ◌∙◌, subst, arith}
+use Rattle.std.proofs.Common.{◌≡◌, ℕ, zero, suc, ◌<◌, List, [], ◌∷◌, Bool, true, false, Option, Some, None, cond, refl, ap, sym, ◌∙◌, subst, arith}
 use Rattle.std.specs.Prelude.{nat_le, if◌then◌else◌, find, ◌==◌, ◌&&◌, ◌||◌}
 use Rattle.std.specs.List.{AllByRecursion}
 use Rattle.std.proofs.lemmas.Bool.Decides.{nat_tests}
@@ -13,11 +13,14 @@ use Rattle.usb_control.specs.declared.state.Effect.{Effect}
 use Rattle.usb_control.specs.declared.state.Effect.TheVariants as effect
 use Rattle.usb_control.specs.declared.state.Choice.{Choice}
 use Rattle.usb_control.specs.declared.state.Choice.TheVariants.{Own, Class}
-use Rattle.usb_control.specs.Table.{Row, rows, is_row_of, chosen, choice, only, status, given, handed, class_descriptor, is_zero, has_interface, has_endpoint, descriptor_of, owner_of, configuration_value, named}
+use Rattle.usb_control.specs.Table.{Row, rows, is_row_of, chosen, choice, only, status, gives, given, handed, class_descriptor, is_zero, has_interface, has_endpoint, descriptor_of, owner_of, configuration_value, named}
 use Rattle.usb_packet.specs.Setup.{fields_of}
-use Rattle.device_machine.specs.Core.{Core, ending, state_of, begun, work_request, with_request_worked}
+use Rattle.device_machine.specs.declared.control.Stage.TheVariants.{Sent}
+use Rattle.device_machine.specs.Packets.{data_packets}
+use Rattle.device_machine.specs.Core.{Core, Sending, ending, state_of, sending, advanced, begun, work_request, with_request_worked}
 use Rattle.device_relation.specs.Relation.{IsAddress}
-use Rattle.usbd_core.specs.Device.{address_of}
+use Rattle.dwc2_regs.specs.declared.access.Profile.{Profile}
+use Rattle.usbd_core.specs.Device.{Device, address_of, core_of, port_in, Fits}
 
 abbrev IsNear : Choice → Type 0
 IsNear (Own d e) = IsAddress (address_of (ending e))
@@ -101,3 +104,22 @@ request_worked set core mid bytes setup noted taken is =
     ap (λ (x : Core). begun set x (choice set (state_of x) setup) setup.length) taken
     ∙ ap (λ (x : Setup). begun set (record core { request = None }) (choice set (state_of core) x) x.length) is
     ∙ ap (work_request set core) (sym noted)
+
+-- the packets of a data stage that begins are sent
+sent_data : (core : Core) (packets : List (List ℕ)) → advanced (record core { transfer = Sending packets }) (Sending packets) Sent ≡ sending core packets
+sent_data core [] = refl
+sent_data core (packet ∷ packets) = refl
+
+data_given : (set : Set) (core : Core) (bytes : List ℕ) (packets : List (List ℕ)) (allowed : ℕ) (c : Choice) → gives bytes ≡ c → packets ≡ data_packets bytes allowed → 0 < allowed
+    → advanced (record core { transfer = Sending packets }) (Sending packets) Sent ≡ begun set core c allowed
+data_given set core bytes packets zero c is all some = absurd (omega arith)
+data_given set core bytes packets (suc n) c is all some =
+    sent_data core packets ∙ ap (sending core) all ∙ ap (λ (x : Choice). begun set core x (suc n)) is
+
+pub data_begun : (profile : Profile) (view old : Device) (bytes : List ℕ) (packets : List (List ℕ)) (setup : Setup) → view ≡ old → Fits profile old.set (port_in old) old.state old.transfer
+    → gives bytes ≡ choice view.set view.state setup → packets ≡ data_packets bytes setup.length → 0 < setup.length
+    → advanced (record (core_of view) { transfer = Sending packets }) (Sending packets) Sent ≡ begun old.set (core_of old) (choice old.set (state_of (core_of old)) setup) setup.length
+data_begun profile view old bytes packets setup v fits is all some =
+    data_given view.set (core_of view) bytes packets setup.length (choice view.set view.state setup) is all some
+    ∙ ap (λ (d : Device). begun d.set (core_of d) (choice d.set d.state setup) setup.length) v
+    ∙ ap (λ (n : ℕ). begun old.set (core_of old) (choice old.set (record old.state { addr = n }) setup) setup.length) fits.address

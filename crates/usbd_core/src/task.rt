@@ -19,10 +19,9 @@ use arrayvec::ArrayVec;
 use device_machine::Stage;
 use dwc2_access::Regs;
 use dwc2_device::DevPort;
-use usb_control::{Choice, Effect, decide};
+use usb_control::{Effect, Found, find};
 use usb_descriptor::Endpoint;
 use usb_packet::{Packet, Setup, setup_of};
-use usb_pipe::Decision;
 
 impl<R: Regs + Drop> DevStack<R> {
     /// One task run, of at most 40 accesses: it works the stage that finished, and then the SETUP.
@@ -105,29 +104,22 @@ impl<R: Regs + Drop> DevStack<R> {
         ensures core { core_of self.new ≡ begun self.old.set (core_of self.old) (choice self.old.set (state_of (core_of self.old)) setup.now) setup.now.length }
         ensures leaves { Leaves FS4 38 self.old self.new }
     {
-        let choice = decide(&self.set, &self.state, setup);
-        match &choice {
-            Choice::Own(decision, effect) => {
-                self.stage(decision, *effect, setup.length);
-                self.change(*effect);
+        match find(&self.set, &self.state, setup) {
+            Found::Data(bytes) => {
+                if setup.length == 0 {
+                    self.give_status();
+                } else {
+                    self.stage.begin(bytes, setup.length);
+                    self.transfer = Transfer::Data;
+                    self.send();
+                }
             }
-            Choice::Class(_) => self.refuse(),
-        }
-    }
-
-    /// The first stage of a request.
-    #[inline(always)]
-    fn stage(&mut self, decision: &Decision, effect: Effect, allowed: u16)
-        requires needs { Needs FS4 2 self.old }
-        requires free { IsFree (port_in self.old) }
-        requires address { IsAddress (address_of (ending effect)) }
-        ensures core { core_of self.new ≡ staged (core_of self.old) decision.now effect allowed }
-        ensures leaves { Leaves FS4 2 self.old self.new }
-    {
-        match decision {
-            Decision::Data(bytes) => self.give(bytes.as_slice(), allowed),
-            Decision::Status => self.acknowledge(effect),
-            Decision::Take(_) | Decision::Stall => self.refuse(),
+            Found::Status(effect) => {
+                self.acknowledge(effect);
+                self.change(effect);
+            }
+            Found::Stall => self.refuse(),
+            Found::Class(_) => self.refuse(),
         }
     }
 
@@ -167,23 +159,6 @@ impl<R: Regs + Drop> DevStack<R> {
     {
         self.port.start_ep0(&Packet::empty(), false);
         self.transfer = Transfer::Status;
-    }
-
-    /// The first stage of a request with data for the host, of which it allows so many bytes.
-    fn give(&mut self, bytes: &[u8], allowed: u16)
-        requires few { length bytes.now ≤ 512 }
-        requires needs { Needs FS4 2 self.old }
-        requires free { IsFree (port_in self.old) }
-        ensures core { core_of self.new ≡ with_data (core_of self.old) bytes.now allowed }
-        ensures leaves { Leaves FS4 2 self.old self.new }
-    {
-        if allowed == 0 {
-            self.give_status();
-        } else {
-            self.stage.begin(bytes, allowed);
-            self.transfer = Transfer::Data;
-            self.send();
-        }
     }
 
     /// Refuses a request.
