@@ -5,3 +5,4 @@ pub mod Hex
 pub mod Digits
 pub mod Decimal
 pub mod Spaced
+pub mod Spaces

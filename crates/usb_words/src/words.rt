@@ -1,4 +1,5 @@
 ghost use Rattle.std.specs.Prelude.{◌≡◌, [], ◌∷◌, position, MatchOption};
+ghost use Rattle.std.specs.List.{position_or_len};
 ghost use Rattle.usb_words.specs.Field.{is_space};
 
 use std::marker::Model;
@@ -51,5 +52,18 @@ impl<'a> Words<'a> {
 fn first_space(line: &[u8]) -> Option<usize>
     ensures { result ≡ position is_space line.now }
 {
-    line.iter().position(|b| *b == b' ')
+    let at = bytes_to_space(line);
+    if at < line.len() { Some(at) } else { None }
+}
+
+/// How many bytes stand before the first space.
+#[tactic(auto, using(crate::proofs::Spaces::no_space, crate::proofs::Spaces::a_space, crate::proofs::Spaces::at_end))]
+fn bytes_to_space(line: &[u8]) -> usize
+    ensures { result ≡ position_or_len is_space line.now }
+{
+    let mut at = 0;
+    'bytes: while at < line.len() && line[at] != b' ' {
+        at += 1;
+    }
+    at
 }
