@@ -1,7 +1,10 @@
 -- Reading digits, where the number stands still once it is large.
-use Rattle.std.proofs.Common.{◌≡◌, ℕ, ◌+◌, ◌-◌, ◌*◌, ◌<◌, ◌≤◌, List, [], ◌∷◌, min, ap, sym, ◌∙◌, arith, ◌⊎◌, inl, inr, length, drop, get_or}
+use Rattle.std.proofs.Common.{◌≡◌, ℕ, Bool, true, false, Some, None, refl, ◌+◌, ◌-◌, ◌*◌, ◌<◌, ◌≤◌, List, [], ◌∷◌, min, ap, sym, ◌∙◌, arith, ◌⊎◌, inl, inr, length, drop, get_or}
 use Rattle.std.proofs.lemmas.List.{drop_more}
-use Rattle.usb_words.specs.Field.{read_on}
+use Rattle.std.proofs.lemmas.Bool.Decides.{nat_tests}
+use Rattle.std.specs.Prelude.{◌==◌, ◌&&◌, not, nat_lt, nat_le}
+use Rattle.std.specs.Char.{is_ascii_digit}
+use Rattle.usb_words.specs.Field.{read_on, is_numeral, number_of}
 
 -- more digits make no smaller number
 read_on_grows : (digits : List ℕ) (n : ℕ) → n ≤ read_on n digits
@@ -20,3 +23,27 @@ pub read_on_step : (digits : List ℕ) (i n cap low : ℕ) → low ≤ cap → i
 read_on_step digits i n cap low le h =
     read_on_capped (drop (i + 1) digits) (10 * n + (get_or digits i 0 - 48)) cap low le
     ∙ ap (λ ds. min (read_on n ds) low) (sym (drop_more digits i 0 h))
+
+-- one digit is a numeral
+numeral_if : (digit zero : Bool) → (digit && true) && (true && not (zero && false)) ≡ digit
+numeral_if true true = refl
+numeral_if true false = refl
+numeral_if false zero = refl
+
+one_numeral : (d : ℕ) → is_numeral (d ∷ []) ≡ is_ascii_digit d
+one_numeral d = numeral_if (is_ascii_digit d) (d == 48)
+
+pub digit_number : (d most : ℕ) → is_ascii_digit d ≡ true → d - 48 ≤ most → number_of most (d ∷ []) ≡ Some (d - 48)
+digit_number d most h le =
+    let e : read_on 0 (d ∷ []) ≡ d - 48 = omega arith in
+    let small : nat_le (read_on 0 (d ∷ [])) most ≡ true = rw e (grind (arith, nat_tests)) in
+    rw (one_numeral d, h, small) (ap Some e)
+
+pub great_digit : (d most : ℕ) → is_ascii_digit d ≡ true → most < d - 48 → number_of most (d ∷ []) ≡ None
+great_digit d most h lt =
+    let e : read_on 0 (d ∷ []) ≡ d - 48 = omega arith in
+    let large : nat_le (read_on 0 (d ∷ [])) most ≡ false = rw e (grind (arith, nat_tests)) in
+    rw (one_numeral d, h, large) refl
+
+pub no_digit : (d most : ℕ) → is_ascii_digit d ≡ false → number_of most (d ∷ []) ≡ None
+no_digit d most h = rw (one_numeral d, h) refl

@@ -1,4 +1,4 @@
-ghost use Rattle.std.specs.Prelude.{◌≡◌, ℕ, ◌+◌, ◌*◌, ◌^◌, ◌<◌, ◌≤◌, ◌/◌, length, min, IfSome};
+ghost use Rattle.std.specs.Prelude.{◌≡◌, ℕ, ◌+◌, ◌*◌, ◌^◌, ◌<◌, ◌≤◌, ◌/◌, [], ◌∷◌, length, min, IfSome};
 ghost use Rattle.std.specs.Char.{is_ascii_digit};
 ghost use Rattle.std.specs.List.{list_all};
 ghost use Rattle.std.specs.Option.{option_map};
@@ -25,12 +25,29 @@ pub fn number(word: &[u8], most: u32) -> Option<u32>
     }
 }
 
-/// The same of a number of 8 bits.
+/// The same of a number of 8 bits. Most have one digit.
 pub fn small_number(word: &[u8], most: u8) -> Option<u8>
     ensures { result ≡ number_of most word.now }
 {
-    let n = number(word, u32::from(most))?;
-    Some(n as u8)
+    match word {
+        [digit] => one_digit(*digit, most),
+        _ => {
+            let n = number(word, u32::from(most))?;
+            Some(n as u8)
+        }
+    }
+}
+
+#[tactic(auto, using(crate::proofs::Numbers::digit_number, crate::proofs::Numbers::great_digit, crate::proofs::Numbers::no_digit))]
+/// The number of at most `most` that one digit is the text of.
+fn one_digit(digit: u8, most: u8) -> Option<u8>
+    ensures { result ≡ number_of most (digit ∷ []) }
+{
+    if !digit.is_ascii_digit() {
+        return None;
+    }
+    let n = digit - b'0';
+    if n <= most { Some(n) } else { None }
 }
 
 /// Whether a word is decimal digits without a leading zero.
