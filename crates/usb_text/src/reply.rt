@@ -3,6 +3,7 @@ ghost use Rattle.arrayvec.specs.ArrayVec.{array_vec_len};
 ghost use Rattle.std.specs.Fmt.{decimal};
 ghost use Rattle.usb_words.specs.Field.{spaced, hex};
 ghost use Rattle.device_line.specs.declared.line.Answer.TheVariants.{Bus as TheBus, Reply as TheReply};
+ghost use Rattle.usb_packet.specs.declared.bus.BusAnswer.TheVariants.{Done};
 ghost use Rattle.usb_text.specs.Line.{answer_words, answer_text, newline};
 ghost use Rattle.usb_text.specs.Reply.{data_name, bus_words, host_words, reply_words};
 
@@ -31,6 +32,16 @@ pub fn push_bus_line<const N: usize>(out: &mut ArrayVec<u8, N>, answer: &BusAnsw
         BusAnswer::NoAnswer => push_text(out, b"none\n"),
         BusAnswer::Data(toggle, packet) => push_data_line(out, *toggle, packet),
     }
+}
+
+/// Appends the line of a handler run or a task run, which is answered `Done`, with its newline.
+#[inline(always)]
+pub fn push_done_line<const N: usize>(out: &mut ArrayVec<u8, N>)
+    requires { array_vec_len out.old + MOST_ANSWER ≤ N }
+    ensures items { out.new.items ≡ out.old.items ++ (answer_text (TheBus Done) ++ newline ∷ []) }
+    ensures length { array_vec_len out.new ≤ array_vec_len out.old + MOST_ANSWER }
+{
+    push_text(out, b"ok\n");
 }
 
 fn push_data_line<const N: usize>(out: &mut ArrayVec<u8, N>, toggle: Toggle, packet: &Packet)

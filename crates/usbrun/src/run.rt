@@ -4,8 +4,9 @@ ghost use Rattle.device_table.specs.State.{opened};
 ghost use Rattle.usb_edge.specs.Stream.{Rose, IsAtEnd};
 ghost use Rattle.usb_edge.specs.Outcome.{faults_at_tell};
 ghost use Rattle.device_machine.specs.Core.{start};
-ghost use Rattle.usb_text.specs.Line.{schedule_text_of};
-ghost use Rattle.usb_text.specs.Scheduled.{Device, device_line, run_line};
+ghost use Rattle.usb_text.specs.Line.{schedule_text_of, IsScheduled};
+ghost use Rattle.usb_text.specs.Scheduled.{Device, scheduled, device_line, run_line};
+ghost use Rattle.usb_packet.specs.declared.bus.BusAnswer.TheVariants.{Done};
 ghost use Rattle.device_line.specs.declared.line.Answer.TheVariants.{Bus, Reply as TheReply};
 ghost use Rattle.device_schedule.specs.Schedule.{core_answer};
 ghost use Rattle.device_text.specs.Job.{most_bytes};
@@ -122,10 +123,32 @@ fn take_line<K: Sink, T: Sink>(
     if let Some(run) = read_run(session.lines.line(n)) {
         return take_run(session, n, run, out, trace);
     }
-    let line = match read_schedule(session.lines.line(n)) {
-        Ok(line) => line,
-        Err(fault) => return Some(Stop::Refused(fault.rule)),
-    };
+    let read = read_schedule(session.lines.line(n));
+    match &read {
+        Ok(line) => take_read(session, n, line, out, trace),
+        Err(fault) => Some(Stop::Refused(fault.rule)),
+    }
+}
+
+#[tactic(auto, using(crate::proofs::Handed::nothing_handed, crate::proofs::Handed::then_added))]
+/// The same where the line was read.
+fn take_read<K: Sink, T: Sink>(
+    session: &mut Session,
+    n: usize,
+    line: &ScheduleLine,
+    out: &mut K,
+    trace: &mut T,
+) -> Option<Stop>
+    requires count { session.old.lines.count ≤ most_bytes }
+    requires lines { session.old.lines.lines ≤ session.old.lines.count }
+    requires line { IsLineAt n session.old.lines }
+    requires text { take n session.old.lines.reader ≡ schedule_text_of (scheduled line.now) }
+    requires fits { IsScheduled (scheduled line.now) }
+    ensures takes { TakesLine result n (both (K.taken out.old) (T.taken trace.old)) (both (K.taken out.new) (T.taken trace.new)) session.old session.new }
+    ensures read_fault { result ≡ Some Stop.ReadFault → ⊥ }
+    ensures out_faults { K.faults out.new ≡ out_faults_at result (K.faults out.old) }
+    ensures trace_faults { T.faults trace.new ≡ trace_faults_at result (T.faults trace.old) }
+{
     if is_too_long(&session.lines, n) {
         return Some(Stop::TooLong);
     }
@@ -135,7 +158,7 @@ fn take_line<K: Sink, T: Sink>(
             if !make_room(session, out) {
                 return Some(Stop::OutFault);
             }
-            let told = answer(session, &line, trace);
+            let told = answer(session, line, trace);
             session.lines.take(n);
             if told { None } else { Some(Stop::TraceFault) }
         }
@@ -194,12 +217,7 @@ fn answer_run<T: Sink>(session: &mut Session, run: RunLine, trace: &mut T) -> bo
         RunLine::Irq => session.run.irq(),
         RunLine::Task => session.run.task(),
     }
-    tell_bus(
-        session.run.trace(),
-        &BusAnswer::Done,
-        &mut session.texts,
-        trace,
-    )
+    tell_done(session.run.trace(), &mut session.texts, trace)
 }
 
 #[tactic(auto, using(crate::proofs::Handed::nothing_handed))]
@@ -258,6 +276,26 @@ fn tell_bus<T: Sink>(
         return false;
     }
     texts.push_bus(accesses, answer);
+    true
+}
+
+/// The same with a run, which is answered `Done`: most lines are runs, and this has no room for a packet.
+#[inline(always)]
+fn tell_done<T: Sink>(accesses: &[Access], texts: &mut Texts, trace: &mut T) -> bool
+    requires room { HasRoom texts.old.out }
+    requires few { length accesses.now ≤ 400 }
+    ensures told { Hears result (T.taken trace.old) (T.taken trace.new) (trace_part accesses.now (Bus Done)) }
+    ensures texts { texts.new ≡ added_where result texts.old accesses.now (Bus Done) }
+    ensures exact { T.faults trace.new ≡ faults_at_tell result (T.faults trace.old) }
+{
+    let turn = BusTurn {
+        accesses,
+        answer: &BusAnswer::Done,
+    };
+    if !trace.tell(&turn) {
+        return false;
+    }
+    texts.push_done(accesses);
     true
 }
 

@@ -1,5 +1,6 @@
 ghost use Rattle.std.specs.Prelude.{◌≡◌, ◌+◌, ◌≤◌, ◌↔◌, [], ◌++◌, length, IsTrue};
 ghost use Rattle.usb_edge.specs.Outcome.{faults_at_tell};
+ghost use Rattle.usb_packet.specs.declared.bus.BusAnswer.TheVariants.{Done};
 ghost use Rattle.device_line.specs.declared.line.Answer.TheVariants.{Bus, Reply as TheReply};
 ghost use Rattle.usbrun.specs.Stream.{HasRoom};
 ghost use Rattle.usbrun.specs.Texts.{shown, added, HandsOut};
@@ -47,6 +48,17 @@ impl Texts {
         self.out.push_bus(answer);
     }
 
+    /// The same with a run, which is answered `Done`.
+    #[inline(always)]
+    pub fn push_done(&mut self, accesses: &[Access])
+        requires room { HasRoom self.old.out }
+        requires few { length accesses.now ≤ 400 }
+        ensures { self.new ≡ added self.old accesses.now (Bus Done) }
+    {
+        self.push_accesses(accesses);
+        self.out.push_done();
+    }
+
     /// The same with a reply.
     pub fn push_reply(&mut self, accesses: &[Access], reply: &Reply)
         requires room { HasRoom self.old.out }
@@ -58,6 +70,7 @@ impl Texts {
     }
 
     /// Adds register lines where the output shows them.
+    #[inline(always)]
     fn push_accesses(&mut self, accesses: &[Access])
         requires room { HasRoom self.old.out }
         requires few { length accesses.now ≤ 400 }

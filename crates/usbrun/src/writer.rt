@@ -1,6 +1,7 @@
 ghost use Rattle.std.specs.Prelude.{◌≡◌, ℕ, ◌+◌, ◌*◌, ◌≤◌, ◌↔◌, List, [], ◌++◌, length, drop, IsTrue};
 ghost use Rattle.arrayvec.specs.ArrayVec.{array_vec_len};
 ghost use Rattle.usb_edge.specs.Outcome.{faults_at_tell};
+ghost use Rattle.usb_packet.specs.declared.bus.BusAnswer.TheVariants.{Done};
 ghost use Rattle.device_line.specs.declared.line.Answer.TheVariants.{Bus, Reply as TheReply};
 ghost use Rattle.device_text.specs.Answers.{answer_line};
 ghost use Rattle.usbrun.specs.Stream.{Hands, HasRoom};
@@ -12,7 +13,10 @@ use std::marker::Model;
 use usb_edge::Sink;
 use usb_packet::BusAnswer;
 use usb_pipe::Reply;
-use usb_text::{MOST_ACCESS, MOST_ANSWER, Side, push_access_line, push_bus_line, push_reply_line};
+use usb_text::{
+    MOST_ACCESS, MOST_ANSWER, Side, push_access_line, push_bus_line, push_done_line,
+    push_reply_line,
+};
 
 /// How many bytes wait at most.
 const BLOCK: usize = 32768;
@@ -69,6 +73,16 @@ impl Writer {
         ensures length { length self.new ≤ length self.old + 8200 }
     {
         push_bus_line(&mut self.waiting, answer);
+    }
+
+    /// The same of a run, which is answered `Done`.
+    #[inline(always)]
+    pub fn push_done(&mut self)
+        requires { length self.old + 8200 ≤ 32768 }
+        ensures text { self.new ≡ self.old ++ answer_line (Bus Done) }
+        ensures length { length self.new ≤ length self.old + 8200 }
+    {
+        push_done_line(&mut self.waiting);
     }
 
     /// The same of a reply.
