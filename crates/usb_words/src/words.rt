@@ -2,6 +2,7 @@ ghost use Rattle.std.specs.Prelude.{◌≡◌, [], ◌∷◌, position, MatchOpt
 ghost use Rattle.std.specs.List.{position_or_len};
 ghost use Rattle.usb_words.specs.Field.{is_space};
 
+use memchr::memchr;
 use std::marker::Model;
 
 /// The words of a line that are left to be read, with what stands between two spaces as one word.
@@ -48,10 +49,16 @@ impl<'a> Words<'a> {
     }
 }
 
-/// Where the first space of a line is.
+/// The bytes of a line whose first word may be long.
+const LONG: usize = 32;
+
+/// Where the first space of a line is. A long word is passed in steps of many bytes.
 fn first_space(line: &[u8]) -> Option<usize>
     ensures { result ≡ position is_space line.now }
 {
+    if line.len() > LONG && line[1] != b' ' {
+        return memchr(b' ', line);
+    }
     let at = bytes_to_space(line);
     if at < line.len() { Some(at) } else { None }
 }
