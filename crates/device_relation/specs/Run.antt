@@ -8,8 +8,9 @@ use Rattle.device_machine.specs.declared.control.Stage.TheVariants.{Sent, Came}
 use Rattle.dwc2_regs.specs.declared.bits.Field.{Field}
 use Rattle.dwc2_regs.specs.declared.TheConstants.{GRSTCTL_TXFFLSH, GRSTCTL_TXFNUM, DIEPCTL_STALL, DIEPCTL_CNAK, DIEPCTL_SNAK, DIEPCTL_EPDIS, DIEPCTL_EPENA, DIEPINT_XFRC}
 use Rattle.dwc2_regs.specs.declared.TheConstants.{DIEPINT_EPDISD, DOEPINT_XFRC, DOEPINT_EPDISD, DOEPINT_STUP, GINTSTS_USBRST, GINTSTS_ENUMDNE, GRXSTSP_BYTES}
+use Rattle.dwc2_regs.specs.declared.TheConstants.{DOEPTSIZ0_COUNT, DOEPTSIZ0_STUPCNT}
 use Rattle.dwc2_regs.specs.Field.{field_of}
-use Rattle.dwc2_regs.specs.Register.{grstctl, gintsts, grxstsp, dcfg, diepctl, diepint, dieptsiz, doepctl, doepint, fifo}
+use Rattle.dwc2_regs.specs.Register.{grstctl, gintsts, grxstsp, dcfg, diepctl, diepint, dieptsiz, doepctl, doepint, doeptsiz, fifo}
 use Rattle.dwc2_fifo.specs.Words.{word_count, words_of, bytes_in}
 use Rattle.dwc2_fifo.specs.Rx.{first_word, words_behind}
 use Rattle.device_table.specs.State.{Table}
@@ -140,8 +141,13 @@ packet_loaded t packet =
 abbrev pub arming : Heard → ℕ
 arming heard = if was_packet heard then snak_epena else epena_cnak
 
+-- DOEPTSIZ0 for one packet of at most 64 bytes, and three SETUPs in a row
+abbrev pub out_packet : ℕ
+out_packet = 3 * 2 ^ DOEPTSIZ0_STUPCNT.low + 2 ^ DOEPTSIZ0_COUNT.low + 64
+
+-- the size of the transfer comes before EPENA
 abbrev pub out_armed : Table → Heard → Table
-out_armed t heard = after_write t (doepctl 0) (arming heard)
+out_armed t heard = after_write (after_write t (doeptsiz 0) out_packet) (doepctl 0) (arming heard)
 
 abbrev pub packet_ready : Joint → List ℕ → Bool → Joint
 packet_ready j packet true = record { table = out_armed (packet_loaded j.table packet) j.software.heard; software = record j.software { side = ready.Last } }

@@ -51,18 +51,18 @@ impl<R: Regs + Drop> DevPort<R> {
         requires sound { IsSound FS4 (joint self.old) }
         requires free { IsTrue (may_start (port_of (joint self.old)).bus.side) }
         requires heard { (port_of (joint self.old)).heard ≡ true }
-        requires has { Has 3 self.old.bank }
+        requires has { Has 4 self.old.bank }
         ensures port { port_of (joint self.new) ≡ armed (port_of (joint self.old)) }
         ensures sound { IsSound FS4 (joint self.new) }
-        ensures spends { Spends 3 self.old.bank self.new.bank }
+        ensures spends { Spends 4 self.old.bank self.new.bank }
     {
         self.arm();
     }
 
     pub(crate) fn arm(&mut self)
-        requires has { Has 3 self.old.bank }
+        requires has { Has 4 self.old.bank }
         ensures joint { joint self.new ≡ run_arm (joint self.old) }
-        ensures spends { Spends 3 self.old.bank self.new.bank }
+        ensures spends { Spends 4 self.old.bank self.new.bank }
     {
         self.end_stall();
         self.arm_out();

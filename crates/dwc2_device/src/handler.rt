@@ -74,9 +74,9 @@ impl<R: Regs + Drop> DevPort<R> {
 
     /// Takes what came, and loads the packet that waits.
     fn serve_rest(&mut self)
-        requires has { Has 181 self.old.bank }
+        requires has { Has 182 self.old.bank }
         ensures joint { joint self.new ≡ rest_served (joint self.old) }
-        ensures spends { Spends 181 self.old.bank self.new.bank }
+        ensures spends { Spends 182 self.old.bank self.new.bank }
     {
         self.take_entries();
         self.load_waiting();
