@@ -1,0 +1,44 @@
+//! Laws of the order of accesses. The functions do nothing.
+ghost use Rattle.access_order.specs.Laws.{Splits, WakesLast};
+ghost use Rattle.access_order.specs.Examples.{InOrderLists, Unsized, StrayWords, StaleXfrc, BehindCnak, EndedReset};
+
+/// A list of accesses is in order exactly where its front is, and the rest is behind it.
+pub fn lists_split()
+    ensures { Splits }
+{}
+
+/// Nothing follows the write that clears USBRST.
+pub fn waking_is_last()
+    ensures { WakesLast }
+{}
+
+/// Worked lists that are in order: endpoint 0 through resets, SETUPs and both data stages, an OUT pipe and an IN pipe of two
+/// packets that are armed, loaded, closed and cleared.
+pub fn worked_lists()
+    ensures { InOrderLists }
+{}
+
+/// Lists that aren't: an endpoint is enabled without a size of its own.
+pub fn enabling_wants_size()
+    ensures { Unsized }
+{}
+
+/// Words are written where no load goes on.
+pub fn words_want_load()
+    ensures { StrayWords }
+{}
+
+/// XFRC is left set, or cleared while a packet may be acknowledged.
+pub fn xfrc_is_cleared_before()
+    ensures { StaleXfrc }
+{}
+
+/// An access follows the CNAK of a load at its endpoint.
+pub fn cnak_is_last()
+    ensures { BehindCnak }
+{}
+
+/// A reset is ended while an endpoint is enabled, not by the last access, unread, or not at all.
+pub fn reset_ends_last()
+    ensures { EndedReset }
+{}
