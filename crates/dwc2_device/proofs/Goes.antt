@@ -1,6 +1,7 @@
 -- One access.
-use Rattle.std.proofs.Common.{◌≡◌, ◌≤◌, ℕ, [], ◌∷◌, ◌++◌, true, refl, ap, ◌∙◌}
+use Rattle.std.proofs.Common.{◌≡◌, ◌≤◌, ℕ, [], ◌∷◌, ◌++◌, true, false, refl, ap, ◌∙◌}
 use Rattle.device_table.specs.Bank.{Bank, bank_read, bank_write}
+use Rattle.device_table.specs.Read.{read_value}
 use Rattle.dwc2_access.specs.Registers.{IsRegister}
 use Rattle.dwc2_device.specs.Driver.{GoesOn, reads, writes, Wakes}
 
@@ -21,7 +22,13 @@ write_still old new off word due e = ap (λ (b : Bank). b.due) e ∙ still old d
   still : (b : Bank) → b.due ≡ [] → (bank_write b off word).due ≡ []
   still b e = rw (e) refl
 
--- the list tells a write
+-- the list tells each access
+pub read_told : (old new : Bank) (off : ℕ) → old.due ≡ [] → new ≡ bank_read old off
+    → new.log ≡ old.log ++ record { write = false; off = off; value = read_value old.table off } ∷ []
+read_told old new off due e = ap (λ (b : Bank). b.log) e ∙ told old due where
+  told : (b : Bank) → b.due ≡ [] → (bank_read b off).log ≡ b.log ++ record { write = false; off = off; value = read_value b.table off } ∷ []
+  told b e = rw (e) refl
+
 pub write_told : (old new : Bank) (off word : ℕ) → old.due ≡ [] → new ≡ bank_write old off word
     → new.log ≡ old.log ++ record { write = true; off = off; value = word } ∷ []
 write_told old new off word due e = ap (λ (b : Bank). b.log) e ∙ told old due where

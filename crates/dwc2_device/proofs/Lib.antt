@@ -4,3 +4,5 @@ pub mod Loops
 pub mod Chunks
 pub mod Sound
 pub mod Opened
+pub mod Phases
+pub mod Kept

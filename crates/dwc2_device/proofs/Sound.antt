@@ -10,7 +10,7 @@ use Rattle.device_table.specs.State.{Table}
 use Rattle.device_table.specs.Write.{after_write}
 use Rattle.device_relation.specs.Software.{Software, Joint}
 use Rattle.device_relation.specs.Relation.{IsSound, IsPacket, Stands, abstract}
-use Rattle.device_relation.specs.Port.{Port, StandsFor, port_of, after_handler, may_start, started, armed, stalled, addressed, with_endpoint, without_endpoints, has_address}
+use Rattle.device_relation.specs.Port.{StandsFor, port_of, after_handler, may_start, started, armed, stalled, addressed, with_endpoint, without_endpoints, has_address}
 use Rattle.device_relation.specs.Run.{run, run_start, run_arm, run_stall, run_address, run_close, run_open_out, run_open_in, open_word}
 use Rattle.device_relation.specs.Laws.{at_start}
 use Rattle.device_relation.proofs.Events.{starts}

@@ -1,3 +1,4 @@
 pub mod Driver
 pub mod Notes
 pub mod Init
+pub mod Phase

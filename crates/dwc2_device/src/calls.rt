@@ -7,6 +7,7 @@ ghost use Rattle.device_relation.specs.Relation.{IsSound, IsPacket};
 ghost use Rattle.device_relation.specs.Port.{port_of, may_start, started, armed, stalled, addressed, without_endpoints};
 ghost use Rattle.device_relation.specs.Run.{with_table, unstalled, out_armed, run_start, run_arm, run_stall, run_address, run_close};
 ghost use Rattle.dwc2_device.specs.Driver.{joint, Has, Spends};
+ghost use Rattle.dwc2_device.specs.Phase.{Keeps, quiet};
 
 use crate::DevPort;
 use crate::words::STALL;
@@ -27,6 +28,7 @@ impl<R: Regs + Drop> DevPort<R> {
         requires has { Has 2 self.old.bank }
         ensures port { port_of (joint self.new) ≡ started (port_of (joint self.old)) packet.now last }
         ensures sound { IsSound FS4 (joint self.new) }
+        ensures order { Keeps quiet quiet self.old.bank.log self.new.bank.log }
         ensures spends { Spends 2 self.old.bank self.new.bank }
     {
         packet_fits(packet);
@@ -36,6 +38,7 @@ impl<R: Regs + Drop> DevPort<R> {
     pub(crate) fn wait(&mut self, packet: &Packet, last: bool)
         requires has { Has 2 self.old.bank }
         ensures joint { joint self.new ≡ run_start (joint self.old) packet.now last }
+        ensures order { Keeps quiet quiet self.old.bank.log self.new.bank.log }
         ensures spends { Spends 2 self.old.bank self.new.bank }
     {
         self.end_stall();
@@ -54,6 +57,7 @@ impl<R: Regs + Drop> DevPort<R> {
         requires has { Has 4 self.old.bank }
         ensures port { port_of (joint self.new) ≡ armed (port_of (joint self.old)) }
         ensures sound { IsSound FS4 (joint self.new) }
+        ensures order { Keeps quiet quiet self.old.bank.log self.new.bank.log }
         ensures spends { Spends 4 self.old.bank self.new.bank }
     {
         self.arm();
@@ -62,6 +66,7 @@ impl<R: Regs + Drop> DevPort<R> {
     pub(crate) fn arm(&mut self)
         requires has { Has 4 self.old.bank }
         ensures joint { joint self.new ≡ run_arm (joint self.old) }
+        ensures order { Keeps quiet quiet self.old.bank.log self.new.bank.log }
         ensures spends { Spends 4 self.old.bank self.new.bank }
     {
         self.end_stall();
@@ -77,6 +82,7 @@ impl<R: Regs + Drop> DevPort<R> {
         requires has { Has 2 self.old.bank }
         ensures port { port_of (joint self.new) ≡ stalled (port_of (joint self.old)) }
         ensures sound { IsSound FS4 (joint self.new) }
+        ensures order { Keeps quiet quiet self.old.bank.log self.new.bank.log }
         ensures spends { Spends 2 self.old.bank self.new.bank }
     {
         self.stall();
@@ -85,6 +91,7 @@ impl<R: Regs + Drop> DevPort<R> {
     pub(crate) fn stall(&mut self)
         requires has { Has 2 self.old.bank }
         ensures joint { joint self.new ≡ run_stall (joint self.old) }
+        ensures order { Keeps quiet quiet self.old.bank.log self.new.bank.log }
         ensures spends { Spends 2 self.old.bank self.new.bank }
     {
         self.write_in_control(0, STALL);
@@ -97,6 +104,7 @@ impl<R: Regs + Drop> DevPort<R> {
     fn end_stall(&mut self)
         requires has { Has 2 self.old.bank }
         ensures joint { joint self.new ≡ with_table (joint self.old) (unstalled self.old.bank.table self.old.software.side) }
+        ensures order { Keeps quiet quiet self.old.bank.log self.new.bank.log }
         ensures spends { Spends 2 self.old.bank self.new.bank }
     {
         match self.side {
@@ -130,6 +138,7 @@ impl<R: Regs + Drop> DevPort<R> {
         requires has { Has 6 self.old.bank }
         ensures port { port_of (joint self.new) ≡ without_endpoints (port_of (joint self.old)) }
         ensures sound { IsSound FS4 (joint self.new) }
+        ensures order { Keeps quiet quiet self.old.bank.log self.new.bank.log }
         ensures spends { Spends 6 self.old.bank self.new.bank }
     {
         self.close();
@@ -138,6 +147,7 @@ impl<R: Regs + Drop> DevPort<R> {
     fn close(&mut self)
         requires has { Has 6 self.old.bank }
         ensures joint { joint self.new ≡ run_close FS4 (joint self.old) }
+        ensures order { Keeps quiet quiet self.old.bank.log self.new.bank.log }
         ensures spends { Spends 6 self.old.bank self.new.bank }
     {
         self.close_others();

@@ -7,6 +7,7 @@ ghost use Rattle.device_relation.specs.Relation.{IsSound};
 ghost use Rattle.device_relation.specs.Port.{port_of, with_endpoint, has_address};
 ghost use Rattle.device_relation.specs.Run.{run_open_out, run_open_in, open_word};
 ghost use Rattle.dwc2_device.specs.Driver.{joint, Has, Spends};
+ghost use Rattle.dwc2_device.specs.Phase.{Keeps, quiet};
 
 use crate::DevPort;
 use dwc2_access::Regs;
@@ -28,6 +29,7 @@ impl<R: Regs + Drop> DevPort<R> {
         requires has { Has 1 self.old.bank }
         ensures port { port_of (joint self.new) ≡ with_endpoint (port_of (joint self.old)) ep.now }
         ensures sound { IsSound FS4 (joint self.new) }
+        ensures order { Keeps quiet quiet self.old.bank.log self.new.bank.log }
         ensures spends { Spends 1 self.old.bank self.new.bank }
     {
         if ep.addr < 128 {
@@ -48,17 +50,20 @@ impl<R: Regs + Drop> DevPort<R> {
         requires has { Has 1 self.old.bank }
         ensures port { port_of (joint self.new) ≡ with_endpoint (port_of (joint self.old)) ep.now }
         ensures sound { IsSound FS4 (joint self.new) }
+        ensures order { Keeps quiet quiet self.old.bank.log self.new.bank.log }
         ensures spends { Spends 1 self.old.bank self.new.bank }
     {
         self.add_out(ep);
     }
 
     fn add_out(&mut self, ep: &Endpoint)
+        requires low { 1 ≤ ep.now.addr }
         requires high { ep.now.addr ≤ 3 }
         requires most { ep.now.size ≤ 64 }
         requires place { length self.old.software.open_ones < 30 }
         requires has { Has 1 self.old.bank }
         ensures joint { joint self.new ≡ run_open_out (joint self.old) ep.now }
+        ensures order { Keeps quiet quiet self.old.bank.log self.new.bank.log }
         ensures spends { Spends 1 self.old.bank self.new.bank }
     {
         self.write_out_control(ep.addr, control_word(ep, 0));
@@ -76,17 +81,20 @@ impl<R: Regs + Drop> DevPort<R> {
         requires has { Has 1 self.old.bank }
         ensures port { port_of (joint self.new) ≡ with_endpoint (port_of (joint self.old)) ep.now }
         ensures sound { IsSound FS4 (joint self.new) }
+        ensures order { Keeps quiet quiet self.old.bank.log self.new.bank.log }
         ensures spends { Spends 1 self.old.bank self.new.bank }
     {
         self.add_in(ep, ep.addr - 128);
     }
 
     fn add_in(&mut self, ep: &Endpoint, number: u8)
+        requires low { 1 ≤ number }
         requires high { number ≤ 3 }
         requires most { ep.now.size ≤ 64 }
         requires place { length self.old.software.open_ones < 30 }
         requires has { Has 1 self.old.bank }
         ensures joint { joint self.new ≡ run_open_in (joint self.old) ep.now number }
+        ensures order { Keeps quiet quiet self.old.bank.log self.new.bank.log }
         ensures spends { Spends 1 self.old.bank self.new.bank }
     {
         self.write_in_control(number, control_word(ep, number));

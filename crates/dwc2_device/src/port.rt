@@ -5,7 +5,7 @@ ghost use Rattle.dwc2_regs.specs.declared.access.TheConstants.{FS4};
 ghost use Rattle.device_table.specs.Bank.{bank_read, bank_write};
 ghost use Rattle.device_table.specs.Read.{read_value, read_table};
 ghost use Rattle.device_table.specs.Write.{write_table, after_write};
-ghost use Rattle.dwc2_regs.specs.Register.{diepctl, diepint, doepctl, doepint};
+ghost use Rattle.dwc2_regs.specs.Register.{offset_of, diepctl, diepint, doepctl, doepint};
 ghost use Rattle.device_relation.specs.Software.{unused};
 ghost use Rattle.device_relation.specs.Run.{with_table};
 ghost use Rattle.dwc2_device.specs.Driver.{joint, Has, Spends};
@@ -75,33 +75,22 @@ impl<R: Regs + Drop> DevPort<R> {
         &self.regs
     }
 
-    #[tactic(auto, using(crate::proofs::Goes::read_goes_on, crate::proofs::Goes::read_still))]
+    #[tactic(auto, using(crate::proofs::Goes::read_goes_on, crate::proofs::Goes::read_told, crate::proofs::Goes::read_still))]
     #[inline(always)]
     pub(crate) fn read(&mut self, off: u16) -> u32
         requires known { IsRegister off }
         requires has { Has 1 self.old.bank }
         ensures value { result ≡ read_value self.old.bank.table off }
         ensures joint { joint self.new ≡ with_table (joint self.old) (read_table self.old.bank.table off) }
+        ensures told { self.new.bank.log ≡ self.old.bank.log ++ record { write = false; off = off; value = read_value self.old.bank.table off } ∷ [] }
         ensures spends { Spends 1 self.old.bank self.new.bank }
     {
         self.regs.read(off)
     }
 
-    #[tactic(auto, using(crate::proofs::Goes::write_goes_on, crate::proofs::Goes::write_still))]
-    #[inline(always)]
-    pub(crate) fn write(&mut self, off: u16, word: u32)
-        requires known { IsRegister off }
-        requires has { Has 1 self.old.bank }
-        ensures joint { joint self.new ≡ with_table (joint self.old) (write_table self.old.bank.table off word) }
-        ensures spends { Spends 1 self.old.bank self.new.bank }
-    {
-        self.regs.write(off, word);
-    }
-
-    /// The same, and the list of accesses tells it.
     #[tactic(auto, using(crate::proofs::Goes::write_goes_on, crate::proofs::Goes::write_told, crate::proofs::Goes::write_still))]
     #[inline(always)]
-    pub(crate) fn write_listed(&mut self, off: u16, word: u32)
+    pub(crate) fn write(&mut self, off: u16, word: u32)
         requires known { IsRegister off }
         requires has { Has 1 self.old.bank }
         ensures joint { joint self.new ≡ with_table (joint self.old) (write_table self.old.bank.table off word) }
@@ -117,6 +106,7 @@ impl<R: Regs + Drop> DevPort<R> {
         requires known { x ≤ 11 }
         requires has { Has 1 self.old.bank }
         ensures joint { joint self.new ≡ with_table (joint self.old) (after_write self.old.bank.table (diepctl x) word) }
+        ensures told { self.new.bank.log ≡ self.old.bank.log ++ record { write = true; off = offset_of (diepctl x); value = word } ∷ [] }
         ensures spends { Spends 1 self.old.bank self.new.bank }
     {
         self.write(diepctl(x), word);
@@ -128,6 +118,7 @@ impl<R: Regs + Drop> DevPort<R> {
         requires known { x ≤ 11 }
         requires has { Has 1 self.old.bank }
         ensures joint { joint self.new ≡ with_table (joint self.old) (after_write self.old.bank.table (doepctl x) word) }
+        ensures told { self.new.bank.log ≡ self.old.bank.log ++ record { write = true; off = offset_of (doepctl x); value = word } ∷ [] }
         ensures spends { Spends 1 self.old.bank self.new.bank }
     {
         self.write(doepctl(x), word);
@@ -139,6 +130,7 @@ impl<R: Regs + Drop> DevPort<R> {
         requires known { x ≤ 11 }
         requires has { Has 1 self.old.bank }
         ensures joint { joint self.new ≡ with_table (joint self.old) (after_write self.old.bank.table (diepint x) word) }
+        ensures told { self.new.bank.log ≡ self.old.bank.log ++ record { write = true; off = offset_of (diepint x); value = word } ∷ [] }
         ensures spends { Spends 1 self.old.bank self.new.bank }
     {
         self.write(diepint(x), word);
@@ -150,6 +142,7 @@ impl<R: Regs + Drop> DevPort<R> {
         requires known { x ≤ 11 }
         requires has { Has 1 self.old.bank }
         ensures joint { joint self.new ≡ with_table (joint self.old) (after_write self.old.bank.table (doepint x) word) }
+        ensures told { self.new.bank.log ≡ self.old.bank.log ++ record { write = true; off = offset_of (doepint x); value = word } ∷ [] }
         ensures spends { Spends 1 self.old.bank self.new.bank }
     {
         self.write(doepint(x), word);

@@ -2,12 +2,13 @@
 ghost use Rattle.std.specs.Prelude.{◌≡◌, ℕ, ◌+◌, ◌-◌, ◌*◌, ◌≤◌, [], ◌++◌, length, min};
 ghost use Rattle.dwc2_regs.specs.Field.{field_of};
 ghost use Rattle.dwc2_regs.specs.Word.{bytes_of};
-ghost use Rattle.dwc2_regs.specs.Register.{grxstsp};
+ghost use Rattle.dwc2_regs.specs.Register.{grxstsp, fifo};
 ghost use Rattle.dwc2_fifo.specs.Words.{word_count, bytes_in};
 ghost use Rattle.device_table.specs.Read.{value_read, after_read};
 ghost use Rattle.device_table.specs.Write.{after_write};
 ghost use Rattle.device_relation.specs.Run.{with_table, after_words, words_read, bytes_read, packet_taken, setup_taken, setup_ended, entry_taken, entries_taken, byte_count, most_entries};
 ghost use Rattle.dwc2_device.specs.Driver.{joint, Has, Spends};
+ghost use Rattle.dwc2_device.specs.Phase.{Keeps, quiet, popped, closed};
 
 use crate::DevPort;
 use crate::words::{SNAK_EPDIS, all_out_interrupts, xfrc};
@@ -41,6 +42,7 @@ impl<R: Regs + Drop> DevPort<R> {
     pub(crate) fn take_entries(&mut self)
         requires has { Has 160 self.old.bank }
         ensures joint { joint self.new ≡ entries_taken most_entries (joint self.old) }
+        ensures order { Keeps quiet quiet self.old.bank.log self.new.bank.log }
         ensures spends { Spends 160 self.old.bank self.new.bank }
     {
         for _ in 0..MOST_ENTRIES {
@@ -56,15 +58,19 @@ impl<R: Regs + Drop> DevPort<R> {
         requires has { Has 1 self.old.bank }
         ensures value { result ≡ value_read self.old.bank.table grxstsp }
         ensures joint { joint self.new ≡ with_table (joint self.old) (after_read self.old.bank.table grxstsp) }
+        ensures order { Keeps quiet (popped result) self.old.bank.log self.new.bank.log }
+        ensures closed { Keeps closed closed self.old.bank.log self.new.bank.log }
         ensures spends { Spends 1 self.old.bank self.new.bank }
     {
         self.read(GRXSTSP)
     }
 
     /// What the entry is whose status was popped.
+    #[tactic(auto, using(crate::proofs::Kept::other_kept))]
     fn take_entry(&mut self, status: u32)
         requires has { Has 19 self.old.bank }
         ensures joint { joint self.new ≡ entry_taken (joint self.old) status }
+        ensures order { Keeps (popped status) quiet self.old.bank.log self.new.bank.log }
         ensures spends { Spends 19 self.old.bank self.new.bank }
     {
         match get_field(status, GRXSTSP_STATUS) {
@@ -80,10 +86,11 @@ impl<R: Regs + Drop> DevPort<R> {
     fn take_setup(&mut self)
         requires has { Has 2 self.old.bank }
         ensures joint { joint self.new ≡ setup_taken (joint self.old) }
+        ensures order { Keeps quiet quiet self.old.bank.log self.new.bank.log }
         ensures spends { Spends 2 self.old.bank self.new.bank }
     {
-        let low = self.read(fifo_window(0));
-        let high = self.read(fifo_window(0));
+        let low = self.read_word();
+        let high = self.read_word();
         self.request = Some(eight_bytes(low, high));
     }
 
@@ -91,6 +98,7 @@ impl<R: Regs + Drop> DevPort<R> {
     fn end_setup(&mut self)
         requires has { Has 3 self.old.bank }
         ensures joint { joint self.new ≡ setup_ended (joint self.old) }
+        ensures order { Keeps quiet quiet self.old.bank.log self.new.bank.log }
         ensures spends { Spends 3 self.old.bank self.new.bank }
     {
         self.write_in_control(0, SNAK_EPDIS);
@@ -105,6 +113,7 @@ impl<R: Regs + Drop> DevPort<R> {
     fn take_packet(&mut self, bytes: u32)
         requires has { Has 16 self.old.bank }
         ensures joint { joint self.new ≡ packet_taken (joint self.old) (min bytes 64) }
+        ensures order { Keeps quiet quiet self.old.bank.log self.new.bank.log }
         ensures spends { Spends 16 self.old.bank self.new.bank }
     {
         let packet = self.read_packet(bytes.min(64) as usize);
@@ -119,6 +128,7 @@ impl<R: Regs + Drop> DevPort<R> {
         requires has { Has 16 self.old.bank }
         ensures value { result ≡ bytes_read bytes self.old.bank.table }
         ensures joint { joint self.new ≡ with_table (joint self.old) (after_words (word_count bytes) self.old.bank.table) }
+        ensures order { Keeps quiet quiet self.old.bank.log self.new.bank.log }
         ensures spends { Spends 16 self.old.bank self.new.bank }
     {
         let mut items = self.read_words(bytes.div_ceil(4));
@@ -136,13 +146,25 @@ impl<R: Regs + Drop> DevPort<R> {
         requires has { Has 16 self.old.bank }
         ensures value { result.items ≡ bytes_in (words_read words self.old.bank.table.rx.left) }
         ensures joint { joint self.new ≡ with_table (joint self.old) (after_words words self.old.bank.table) }
+        ensures order { Keeps quiet quiet self.old.bank.log self.new.bank.log }
         ensures spends { Spends 16 self.old.bank self.new.bank }
     {
         let mut items = ArrayVec::new();
         for _ in 0..words {
-            let word = self.read(fifo_window(0));
+            let word = self.read_word();
             let _ = items.try_extend_from_slice(&word.to_le_bytes());
         }
         items
+    }
+
+    /// A word of the entry that was popped.
+    fn read_word(&mut self) -> u32
+        requires has { Has 1 self.old.bank }
+        ensures value { result ≡ value_read self.old.bank.table (fifo 0) }
+        ensures joint { joint self.new ≡ with_table (joint self.old) (after_read self.old.bank.table (fifo 0)) }
+        ensures order { Keeps quiet quiet self.old.bank.log self.new.bank.log }
+        ensures spends { Spends 1 self.old.bank self.new.bank }
+    {
+        self.read(fifo_window(0))
     }
 }

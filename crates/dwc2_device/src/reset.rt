@@ -6,6 +6,7 @@ ghost use Rattle.device_table.specs.Write.{after_write};
 ghost use Rattle.device_relation.specs.Software.{unused};
 ghost use Rattle.device_relation.specs.Run.{with_table, pipe_closed, pipes_closed, others_closed, interrupts_cleared, all_cleared, popped_all, reset_served, flush_all, reset_bits};
 ghost use Rattle.dwc2_device.specs.Driver.{joint, Wakes, Has, Spends};
+ghost use Rattle.dwc2_device.specs.Phase.{Keeps, quiet, found, closed, shut, over};
 
 use crate::DevPort;
 use crate::receive::MOST_ENTRIES;
@@ -21,6 +22,7 @@ impl<R: Regs + Drop> DevPort<R> {
         requires has { Has 27 self.old.bank }
         ensures joint { joint self.new ≡ record { table = reset_served FS4 self.old.bank.table; software = unused true } }
         ensures wakes { Wakes self.new.bank }
+        ensures order { Keeps found over self.old.bank.log self.new.bank.log }
         ensures spends { Spends 27 self.old.bank self.new.bank }
     {
         self.write_dcfg(0);
@@ -47,6 +49,8 @@ impl<R: Regs + Drop> DevPort<R> {
     pub(crate) fn write_dcfg(&mut self, word: u32)
         requires has { Has 1 self.old.bank }
         ensures joint { joint self.new ≡ with_table (joint self.old) (after_write self.old.bank.table dcfg word) }
+        ensures order { Keeps quiet quiet self.old.bank.log self.new.bank.log }
+        ensures found { Keeps found found self.old.bank.log self.new.bank.log }
         ensures spends { Spends 1 self.old.bank self.new.bank }
     {
         self.write(DCFG, word);
@@ -55,6 +59,7 @@ impl<R: Regs + Drop> DevPort<R> {
     fn flush_all(&mut self)
         requires has { Has 1 self.old.bank }
         ensures joint { joint self.new ≡ with_table (joint self.old) (after_write self.old.bank.table grstctl flush_all) }
+        ensures order { Keeps closed closed self.old.bank.log self.new.bank.log }
         ensures spends { Spends 1 self.old.bank self.new.bank }
     {
         self.write(GRSTCTL, FLUSH_ALL);
@@ -65,9 +70,10 @@ impl<R: Regs + Drop> DevPort<R> {
         requires has { Has 1 self.old.bank }
         ensures joint { joint self.new ≡ with_table (joint self.old) (after_write self.old.bank.table gintsts reset_bits) }
         ensures wakes { Wakes self.new.bank }
+        ensures order { Keeps shut over self.old.bank.log self.new.bank.log }
         ensures spends { Spends 1 self.old.bank self.new.bank }
     {
-        self.write_listed(GINTSTS, reset_bits());
+        self.write(GINTSTS, reset_bits());
     }
 
     /// Both directions of one endpoint answer NAK and are disabled and closed.
@@ -75,6 +81,9 @@ impl<R: Regs + Drop> DevPort<R> {
         requires known { x ≤ 3 }
         requires has { Has 2 self.old.bank }
         ensures joint { joint self.new ≡ with_table (joint self.old) (pipe_closed self.old.bank.table x) }
+        ensures first { x ≡ 0 → Keeps found closed self.old.bank.log self.new.bank.log }
+        ensures others { 1 ≤ x → Keeps closed closed self.old.bank.log self.new.bank.log }
+        ensures quiet { 1 ≤ x → Keeps quiet quiet self.old.bank.log self.new.bank.log }
         ensures spends { Spends 2 self.old.bank self.new.bank }
     {
         self.write_in_control(x, SNAK_EPDIS);
@@ -85,6 +94,7 @@ impl<R: Regs + Drop> DevPort<R> {
     fn close_pipes(&mut self)
         requires has { Has 8 self.old.bank }
         ensures joint { joint self.new ≡ with_table (joint self.old) (pipes_closed FS4 self.old.bank.table) }
+        ensures order { Keeps found closed self.old.bank.log self.new.bank.log }
         ensures spends { Spends 8 self.old.bank self.new.bank }
     {
         self.close_pipe(0);
@@ -95,6 +105,8 @@ impl<R: Regs + Drop> DevPort<R> {
     pub(crate) fn close_others(&mut self)
         requires has { Has 6 self.old.bank }
         ensures joint { joint self.new ≡ with_table (joint self.old) (others_closed FS4 self.old.bank.table) }
+        ensures order { Keeps quiet quiet self.old.bank.log self.new.bank.log }
+        ensures closed { Keeps closed closed self.old.bank.log self.new.bank.log }
         ensures spends { Spends 6 self.old.bank self.new.bank }
     {
         self.close_pipe(1);
@@ -106,6 +118,8 @@ impl<R: Regs + Drop> DevPort<R> {
         requires known { x ≤ 3 }
         requires has { Has 2 self.old.bank }
         ensures joint { joint self.new ≡ with_table (joint self.old) (interrupts_cleared self.old.bank.table x) }
+        ensures first { x ≡ 0 → Keeps closed shut self.old.bank.log self.new.bank.log }
+        ensures others { 1 ≤ x → Keeps shut shut self.old.bank.log self.new.bank.log }
         ensures spends { Spends 2 self.old.bank self.new.bank }
     {
         self.clear_in_interrupts(x, all_in_interrupts());
@@ -116,6 +130,7 @@ impl<R: Regs + Drop> DevPort<R> {
     fn clear_all(&mut self)
         requires has { Has 8 self.old.bank }
         ensures joint { joint self.new ≡ with_table (joint self.old) (all_cleared FS4 self.old.bank.table) }
+        ensures order { Keeps closed shut self.old.bank.log self.new.bank.log }
         ensures spends { Spends 8 self.old.bank self.new.bank }
     {
         self.clear_interrupts(0);
@@ -129,6 +144,7 @@ impl<R: Regs + Drop> DevPort<R> {
     fn pop_all(&mut self)
         requires has { Has 8 self.old.bank }
         ensures joint { joint self.new ≡ with_table (joint self.old) (popped_all 8 self.old.bank.table) }
+        ensures order { Keeps closed closed self.old.bank.log self.new.bank.log }
         ensures spends { Spends 8 self.old.bank self.new.bank }
     {
         for _ in 0..MOST_ENTRIES {

@@ -2,6 +2,7 @@
 use Rattle.std.proofs.Common.{◌≡◌, ◌+◌, ◌-◌, ◌≤◌, []}
 use Rattle.device_relation.specs.Run.{popped_all}
 use Rattle.dwc2_device.specs.Driver.{GoesOn}
+use Rattle.dwc2_device.specs.Phase.{Keeps, closed}
 use Rattle.dwc2_device.proofs.port.DevPort.pop_all.Given as goal
 
 abbrev pub invariant-loop : goal.invariant-loop
@@ -11,3 +12,4 @@ invariant-loop g l =
     × (l.initial.self.bank.spare ≤ l.self.bank.spare + l.counter)
     × (l.self.bank.due ≡ [])
     × GoesOn l.initial.self.bank l.self.bank
+    × Keeps closed closed l.initial.self.bank.log l.self.bank.log

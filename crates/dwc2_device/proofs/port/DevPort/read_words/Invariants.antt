@@ -3,6 +3,7 @@ use Rattle.std.proofs.Common.{◌≡◌, ◌+◌, ◌-◌, ◌*◌, ◌≤◌, [
 use Rattle.dwc2_fifo.specs.Words.{bytes_in}
 use Rattle.device_relation.specs.Run.{after_words, words_read}
 use Rattle.dwc2_device.specs.Driver.{GoesOn}
+use Rattle.dwc2_device.specs.Phase.{Keeps, quiet}
 use Rattle.dwc2_device.proofs.port.DevPort.read_words.Given as goal
 
 abbrev pub invariant-loop : goal.invariant-loop
@@ -14,4 +15,5 @@ invariant-loop g l =
     × (l.initial.self.bank.spare ≤ l.self.bank.spare + l.counter)
     × (l.self.bank.due ≡ [])
     × GoesOn l.initial.self.bank l.self.bank
+    × Keeps quiet quiet l.initial.self.bank.log l.self.bank.log
     × (l.words ≤ 16)

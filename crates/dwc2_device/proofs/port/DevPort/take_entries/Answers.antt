@@ -20,4 +20,5 @@ loop-preserved g c =
       omega (arith, c.take_entry.ensures.spends.0, c.pop-status.ensures.spends.0, c.loop.invariant.1),
       c.take_entry.ensures.spends.1,
       λ start m. c.take_entry.ensures.spends.2 start (c.pop-status.ensures.spends.2 start (c.loop.invariant.3 start m)),
+      λ start k. c.take_entry.ensures.order start (c.pop-status.ensures.order start (c.loop.invariant.4 start k)),
     )
