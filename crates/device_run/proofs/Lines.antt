@@ -1,5 +1,5 @@
 -- What a line makes of a device.
-use Rattle.std.proofs.Common.{◌≡◌, ◌≤◌, List, [], refl, ap, sym, ◌∙◌, subst, length, arith}
+use Rattle.std.proofs.Common.{◌≡◌, ◌≤◌, List, [], true, refl, ap, sym, ◌∙◌, subst, length, arith}
 use Rattle.std.specs.List.{AllByRecursion}
 use Rattle.register_text.specs.Access.{IsAccess}
 use Rattle.usb_packet.specs.declared.bus.BusAnswer.TheVariants.{Done}
@@ -10,10 +10,14 @@ use Rattle.device_line.specs.declared.line.DevLine.TheVariants.{Irq, Task}
 use Rattle.device_line.specs.declared.line.Answer.TheVariants.{Bus as TheBus}
 use Rattle.device_machine.specs.Core.{after_irq, after_task}
 use Rattle.device_schedule.specs.Turns.{AreWork}
+use Rattle.std.specs.Prelude.{◌&&◌, not}
+use Rattle.access_order.specs.Order.{Order, are_ordered, order_after, begun as begun_order}
 use Rattle.dwc2_device.specs.Driver.{GoesOn, stays}
+use Rattle.dwc2_device.specs.Phase.{Keeps, Kept, quiet, over, Over}
+use Rattle.dwc2_device.proofs.Kept.{quiet_over}
 use Rattle.dwc2_device.proofs.Moved.{moved}
 use Rattle.usbd_core.specs.Device.{Device, core_of}
-use Rattle.device_run.specs.Run.{Run, Steps}
+use Rattle.device_run.specs.Run.{Run, Steps, StaysInOrder}
 
 -- what a clause sees of a device
 abbrev pub run_of : Device → Run
@@ -37,10 +41,26 @@ worked a b e goes fit =
       table = subst (λ (l : List Access). b.table ≡ accesses_after a.table l) (sym m.log) m.table;
     }
 
+-- what a run's accesses leave
+over_stays : (log : List Access) → Keeps quiet over [] log → StaysInOrder log
+over_stays log keeps = record { run = λ o h. in_order (begun_order o) log (keeps (begun_order o) (fresh o h)); rests = λ o h. (keeps (begun_order o) (fresh o h)).state } where
+  fresh : (o : Order) → Over o → Kept (begun_order o) [] quiet
+  fresh o h = record {
+    ordered = refl;
+    state = record { runs = record { found = refl; woken = refl; ins = h.ins; loads = λ n. refl; outs = h.outs }; loaded = refl; ended = h.ended };
+  }
+
+  in_order : (o : Order) (l : List Access) → Kept o l over → (are_ordered o l && not (order_after o l).reset) ≡ true
+  in_order o l k = rw (k.ordered) (rw (k.state.found) refl)
+
+-- a line without accesses
+pub none_stays : (log : List Access) → log ≡ [] → StaysInOrder log
+none_stays log e = over_stays log (λ start k. quiet_over start log (subst (λ l. Kept start l quiet) (sym e) k))
+
 pub irq_steps : (d e : Device) (b : Bank) → b ≡ begun d.port.bank → d.port.bank.due ≡ [] → e.set ≡ d.set
-    → core_of e ≡ after_irq (core_of (with_bank d b)) → GoesOn b e.port.bank → AllByRecursion IsAccess e.port.bank.log
+    → core_of e ≡ after_irq (core_of (with_bank d b)) → GoesOn b e.port.bank → Keeps quiet over b.log e.port.bank.log → AllByRecursion IsAccess e.port.bank.log
     → Steps (run_of d) (run_of e) Irq (TheBus Done)
-irq_steps d e b same due set core goes fit =
+irq_steps d e b same due set core goes order fit =
     let w = worked d.port.bank e.port.bank due (subst (λ (x : Bank). GoesOn x e.port.bank) same goes) fit in
     record {
       set = set;
@@ -48,12 +68,13 @@ irq_steps d e b same due set core goes fit =
       core = core ∙ ap (λ (x : Bank). after_irq (core_of (with_bank d x))) same;
       turn = w.work;
       table = w.table;
+      order = over_stays e.port.bank.log (subst (λ (x : Bank). Keeps quiet over x.log e.port.bank.log) same order);
     }
 
 pub task_steps : (d e : Device) (b : Bank) → b ≡ begun d.port.bank → d.port.bank.due ≡ [] → e.set ≡ d.set
-    → core_of e ≡ after_task d.set (core_of (with_bank d b)) → GoesOn b e.port.bank → AllByRecursion IsAccess e.port.bank.log
+    → core_of e ≡ after_task d.set (core_of (with_bank d b)) → GoesOn b e.port.bank → Keeps quiet quiet b.log e.port.bank.log → AllByRecursion IsAccess e.port.bank.log
     → Steps (run_of d) (run_of e) Task (TheBus Done)
-task_steps d e b same due set core goes fit =
+task_steps d e b same due set core goes order fit =
     let w = worked d.port.bank e.port.bank due (subst (λ (x : Bank). GoesOn x e.port.bank) same goes) fit in
     record {
       set = set;
@@ -61,4 +82,5 @@ task_steps d e b same due set core goes fit =
       core = core ∙ ap (λ (x : Bank). after_task d.set (core_of (with_bank d x))) same;
       turn = w.work;
       table = w.table;
+      order = over_stays e.port.bank.log (λ start k. quiet_over start e.port.bank.log (subst (λ (x : Bank). Keeps quiet quiet x.log e.port.bank.log) same order start k));
     }

@@ -99,6 +99,7 @@ impl DeviceRun {
     /// A line of the bus, and its answer there. It and the calls for the other lines are what `step` is made of, without
     /// an `Answer`, which has room for the longest one.
     #[inline(never)]
+    #[tactic(auto, using(crate::proofs::Lines::none_stays))]
     pub fn bus(&mut self, event: &BusEvent) -> BusAnswer
         ensures { Steps self.old self.new (Bus event.now) (TheBus result) }
     {
@@ -128,6 +129,7 @@ impl DeviceRun {
     }
 
     /// What is answered to a call. No class is driven yet, so each call of one is closed.
+    #[tactic(auto, using(crate::proofs::Lines::none_stays))]
     pub fn reply(&mut self, call: &DevCall) -> Reply
         ensures { Steps self.old self.new (Call call.now) (TheReply result) }
     {

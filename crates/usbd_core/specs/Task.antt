@@ -4,7 +4,9 @@ use Rattle.usb_descriptor.specs.declared.endpoint.Endpoint.{Endpoint}
 use Rattle.dwc2_regs.specs.declared.access.Profile.{Profile}
 use Rattle.device_relation.specs.Relation.{IsSound}
 use Rattle.device_relation.specs.Port.{Port, may_start}
+use Rattle.device_table.specs.Bank.{Bank}
 use Rattle.dwc2_device.specs.Driver.{joint, Has, Spends}
+use Rattle.dwc2_device.specs.Phase.{Keeps, quiet}
 use Rattle.usbd_core.specs.Device.{Device, KeepsAddress, Fits, port_in}
 
 -- controller, driver and software agree, but for the notes
@@ -15,9 +17,13 @@ Holds profile d = IsSound profile (joint d.port) × Fits profile d.set (port_in 
 abbrev pub Needs : Profile → ℕ → Device → Type 0
 Needs profile n d = Holds profile d × Has n d.port.bank
 
--- and what it leaves: they agree again, at most so many accesses were made, and the descriptors are the same
+-- accesses that were in order go on so
+abbrev pub GoesInOrder : Bank → Bank → Type 0
+GoesInOrder old new = Keeps quiet quiet old.log new.log
+
+-- and what it leaves: they agree again, at most so many accesses were made, in order, and the descriptors are the same
 abbrev pub Leaves : Profile → ℕ → Device → Device → Type 0
-Leaves profile n old new = Holds profile new × Spends n old.port.bank new.port.bank × (new.set ≡ old.set)
+Leaves profile n old new = Holds profile new × Spends n old.port.bank new.port.bank × (new.set ≡ old.set) × GoesInOrder old.port.bank new.port.bank
 
 -- A SETUP came since the last reset, and nothing is on its way on endpoint 0. What waits there brings no address.
 pub record IsFree (p : Port) : Type 0 where

@@ -5,6 +5,7 @@ ghost use Rattle.dwc2_regs.specs.declared.access.TheConstants.{FS4};
 ghost use Rattle.device_table.specs.State.{first, opened};
 ghost use Rattle.device_machine.specs.Core.{start, state_of, after_irq};
 ghost use Rattle.dwc2_device.specs.Driver.{Has, Spends};
+ghost use Rattle.dwc2_device.specs.Phase.{Keeps, quiet, over};
 ghost use Rattle.usbd_core.specs.Device.{tops, core_of, Agrees};
 ghost use Rattle.usbd_core.specs.Hears.{forgotten, sent, after_note};
 
@@ -112,6 +113,7 @@ impl<R: Regs + Drop> DevStack<R> {
         ensures core { core_of self.new ≡ after_irq (core_of self.old) }
         ensures agrees { Agrees FS4 self.new }
         ensures set { self.new.set ≡ self.old.set }
+        ensures order { Keeps quiet over self.old.port.bank.log self.new.port.bank.log }
         ensures spends { Spends 200 self.old.port.bank self.new.port.bank }
     {
         self.port.run_handler();

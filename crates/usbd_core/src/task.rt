@@ -10,7 +10,7 @@ ghost use Rattle.device_relation.specs.Relation.{IsSound, IsAddress};
 ghost use Rattle.device_relation.specs.Port.{port_of};
 ghost use Rattle.dwc2_device.specs.Driver.{joint, Has, Spends};
 ghost use Rattle.usbd_core.specs.Device.{core_of, port_in, address_of, tops, Fits, Rests, Agrees};
-ghost use Rattle.usbd_core.specs.Task.{IsFree, IsFreeFor, Needs, Leaves, with_endpoints};
+ghost use Rattle.usbd_core.specs.Task.{IsFree, IsFreeFor, Needs, Leaves, GoesInOrder, with_endpoints};
 
 use crate::DevStack;
 use crate::halted::halted_after;
@@ -31,6 +31,7 @@ impl<R: Regs + Drop> DevStack<R> {
         ensures core { core_of self.new ≡ after_task self.old.set (core_of self.old) }
         ensures agrees { Agrees FS4 self.new }
         ensures set { self.new.set ≡ self.old.set }
+        ensures order { GoesInOrder self.old.port.bank self.new.port.bank }
         ensures spends { Spends 40 self.old.port.bank self.new.port.bank }
     {
         self.work_stage();
@@ -67,6 +68,7 @@ impl<R: Regs + Drop> DevStack<R> {
         ensures core { core_of self.new ≡ with_request_worked self.old.set (core_of self.old) }
         ensures set { self.new.set ≡ self.old.set }
         ensures agrees { Agrees FS4 self.new }
+        ensures order { GoesInOrder self.old.port.bank self.new.port.bank }
         ensures spends { Spends 38 self.old.port.bank self.new.port.bank }
     {
         match self.request.take() {
@@ -218,6 +220,7 @@ fn renew<R: Regs + Drop>(port: &mut DevPort<R>, endpoints: &[Endpoint], begins: 
     requires has { Has 36 port.old.bank }
     ensures port { port_of (joint port.new) ≡ with_endpoints (port_of (joint port.old)) (if begins then endpoints.now else []) }
     ensures sound { IsSound FS4 (joint port.new) }
+    ensures order { GoesInOrder port.old.bank port.new.bank }
     ensures spends { Spends 36 port.old.bank port.new.bank }
 {
     port.close_all();
@@ -234,6 +237,7 @@ fn open_all<R: Regs + Drop>(port: &mut DevPort<R>, endpoints: &[Endpoint])
     requires has { Has 30 port.old.bank }
     ensures port { port_of (joint port.new) ≡ with_endpoints (port_of (joint port.old)) endpoints.now }
     ensures sound { IsSound FS4 (joint port.new) }
+    ensures order { GoesInOrder port.old.bank port.new.bank }
     ensures spends { Spends 30 port.old.bank port.new.bank }
 {
     for endpoint in endpoints {

@@ -4,7 +4,7 @@ use Rattle.dwc2_regs.specs.declared.access.TheConstants.{FS4}
 use Rattle.device_relation.specs.Relation.{IsSound}
 use Rattle.device_relation.specs.Port.{port_of}
 use Rattle.dwc2_device.specs.Driver.{joint, GoesOn}
-use Rattle.usbd_core.specs.Task.{with_endpoints}
+use Rattle.usbd_core.specs.Task.{with_endpoints, GoesInOrder}
 use Rattle.usbd_core.proofs.task.open_all.Given as goal
 
 abbrev pub invariant-loop-endpoint : goal.invariant-loop-endpoint
@@ -14,4 +14,5 @@ invariant-loop-endpoint g l = record {
   spare : l.initial.port.bank.spare ≤ l.port.bank.spare + l.endpoint-index;
   still : l.port.bank.due ≡ [];
   goes : GoesOn l.initial.port.bank l.port.bank;
+  order : GoesInOrder l.initial.port.bank l.port.bank;
 }

@@ -10,4 +10,4 @@ use Rattle.device_run.proofs.run.DeviceRun.irq.Goals as goal
 pub returns : goal.returns
 returns c =
     subst (λ (r : Run). Steps r (run_of c.irq.new.self) Irq (TheBus Done)) c.self.view_is
-    (irq_steps c.self.inside.stack c.irq.new.self c.begin.new.self (c.begin.ensures ∙ ap begun c.regs.ensures.value) c.self.invariant.1 c.irq.ensures.set c.irq.ensures.core c.irq.ensures.spends.2 c.trace_fits.ensures)
+    (irq_steps c.self.inside.stack c.irq.new.self c.begin.new.self (c.begin.ensures ∙ ap begun c.regs.ensures.value) c.self.invariant.1 c.irq.ensures.set c.irq.ensures.core c.irq.ensures.spends.2 c.irq.ensures.order c.trace_fits.ensures)

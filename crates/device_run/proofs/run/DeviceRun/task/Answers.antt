@@ -10,4 +10,4 @@ use Rattle.device_run.proofs.run.DeviceRun.task.Goals as goal
 pub returns : goal.returns
 returns c =
     subst (λ (r : Run). Steps r (run_of c.task.new.self) Task (TheBus Done)) c.self.view_is
-    (task_steps c.self.inside.stack c.task.new.self c.begin.new.self (c.begin.ensures ∙ ap begun c.regs.ensures.value) c.self.invariant.1 c.task.ensures.set c.task.ensures.core c.task.ensures.spends.2 c.trace_fits.ensures)
+    (task_steps c.self.inside.stack c.task.new.self c.begin.new.self (c.begin.ensures ∙ ap begun c.regs.ensures.value) c.self.invariant.1 c.task.ensures.set c.task.ensures.core c.task.ensures.spends.2 c.task.ensures.order c.trace_fits.ensures)
