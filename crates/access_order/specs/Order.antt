@@ -250,3 +250,7 @@ after_run o accesses = order_after (begun o) accesses
 abbrev pub are_runs : Order → List (List Access) → Bool
 are_runs o [] = true
 are_runs o (run ∷ runs) = is_run o run && are_runs (after_run o run) runs
+
+abbrev pub after_runs : Order → List (List Access) → Order
+after_runs o [] = o
+after_runs o (run ∷ runs) = after_runs (after_run o run) runs

@@ -152,6 +152,7 @@ module _ (draft : Draft) (left left' : Option (List ℕ)) (new : Lines) (h : Hea
   no_text = record {
     turns = [];
     is_trace = record { lines = refl; answers = refl; run = tt };
+    in_order = refl;
     trace = takes-nothing traced;
     told = refl;
     out = by_way regs;
@@ -320,6 +321,7 @@ module _ (left0 left1 left2 : Option (List ℕ)) (draft : Draft) (l1 : Lines) (h
   writes none told = record {
     turns = u.turns;
     is_trace = traces;
+    in_order = u.in_order;
     trace = subst (λ (x : List Turn). Takes traced0 traced1 (trace_text x)) (sym u.sinks.lines)
         (all_told traced0 traced1 u.sinks.done u.sinks.rest u.sinks.given u.sinks.more (u.sinks.whole told) u.sinks.part u.sinks.trace);
     told = run_left (set_of h.heads) u.lines u.turns traces;
@@ -333,6 +335,7 @@ module _ (left0 left1 left2 : Option (List ℕ)) (draft : Draft) (l1 : Lines) (h
       record {
         turns = u.turns;
         is_trace = traces;
+        in_order = u.in_order;
         trace = record {
           given = trace_text u.sinks.done ++ u.sinks.given;
           more = u.sinks.more;

@@ -1,4 +1,5 @@
 pub mod Handed
+pub mod Ordered
 pub mod Turns
 pub mod Endings
 pub mod Exactly

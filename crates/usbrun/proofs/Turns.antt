@@ -31,9 +31,10 @@ use Rattle.usbrun.specs.declared.session.Session.{Session}
 use Rattle.usbrun.specs.declared.session.Stop.{Stop}
 use Rattle.usbrun.specs.declared.session.Stop.TheVariants as stop
 use Rattle.usbrun.specs.Texts.{Took, both, Hears, HandsOut, trace_part, added_where, texts_of}
-use Rattle.usbrun.specs.Session.{Looks, Answers, Keeps, Stands, Halted, TakesLine, IsHalt, Turns, Halts, Goes, Progress, Runs}
+use Rattle.usbrun.specs.Session.{Looks, Answers, Keeps, Stands, Halted, TakesLine, IsHalt, Turns, Halts, Goes, StayInOrder, Progress, Runs}
 use Rattle.job_reader.proofs.Gone.{line_at, line_taken, line_size, gone_nothing, gone_found, gone_more}
 use Rattle.job_reader.proofs.Heads.{too_long}
+use Rattle.usbrun.proofs.Ordered.{order_start, order_more}
 use Rattle.usbrun.proofs.Handed.{nothing_handed, out_more, out_joined, texts-more, texts-nothing, trace-told, trace_is-more}
 
 -- the causes of a run's end at the line in front
@@ -137,6 +138,7 @@ progress_start left took s core table empty short few = record {
   gone = gone_nothing left s.lines;
   turns = [];
   traces = record { lines = refl; answers = refl; run = tt };
+  order = order_start;
   trace = takes-nothing took.trace;
   hands = texts-nothing took.out s.texts empty;
   set = refl;
@@ -172,6 +174,9 @@ module _ (told : Bool) (left0 left left' : Option (List ℕ)) (took0 took took' 
       trace-more s0.run.set p.lines p.turns turn p.traces (ap (λ (c : Core). core_answer c line) p.core)
       (subst (λ (x : Table). IsTurn x line s'.run.log answer) p.table t.run.turn)
 
+  order_on : StayInOrder (p.turns ++ turn ∷ [])
+  order_on = order_more p.turns turn p.order t.run.order
+
   few_on : s'.lines.lines ≤ s'.lines.count
   few_on = omega (arith, p.few, t.gone.lines, t.more)
 
@@ -183,6 +188,7 @@ progress_more left0 left left' took0 took took' s0 s s' p t = record {
   gone = gone_on true left0 left left' took0 took took' s0 s s' p t;
   turns = p.turns ++ turn true left0 left left' took0 took took' s0 s s' p t ∷ [];
   traces = traces_on true left0 left left' took0 took took' s0 s s' p t;
+  order = order_on true left0 left left' took0 took took' s0 s s' p t;
   trace = trace-told took0.trace took.trace took'.trace p.turns (turn true left0 left left' took0 took took' s0 s s' p t) p.trace t.trace;
   hands = texts-more took0.out took.out took'.out s0.texts.regs p.turns (turn true left0 left left' took0 took took' s0 s s' p t) s.texts s'.texts p.hands t.hands;
   set = t.run.set ∙ p.set;
@@ -208,6 +214,7 @@ progress_halts r left0 left left' took0 took took' s0 s s' p h = record {
       (gone_found left left' s.lines s'.lines h.finds)));
   turns = p.turns;
   traces = p.traces;
+  in_order = p.order.in_order;
   sinks = record {
     done = p.turns;
     rest = [];
@@ -237,6 +244,7 @@ progress_fails left0 left left' took0 took took' s0 s s' p t = record {
   gone = gone_on false left0 left left' took0 took took' s0 s s' p t;
   turns = p.turns ++ last ∷ [];
   traces = traces_on false left0 left left' took0 took took' s0 s s' p t;
+  in_order = (order_on false left0 left left' took0 took took' s0 s s' p t).in_order;
   sinks = record {
     done = p.turns;
     rest = last ∷ [];

@@ -1,5 +1,5 @@
 -- What one line of a schedule, and then many, do to a run.
-use Rattle.std.specs.Prelude.{◌≡◌, ℕ, ◌+◌, ◌≤◌, ◌<◌, List, [], ◌∷◌, ◌++◌, Bool, true, false, length, take, drop, Option, Some, None, ⊤}
+use Rattle.std.specs.Prelude.{◌≡◌, ℕ, ◌+◌, ◌≤◌, ◌<◌, List, [], ◌∷◌, ◌++◌, Bool, true, false, length, map, take, drop, Option, Some, None, ⊤}
 use Rattle.std.specs.List.{AllByRecursion}
 use Rattle.dwc2_regs.specs.declared.access.TheConstants.{FS4}
 use Rattle.device_table.specs.State.{opened}
@@ -16,9 +16,11 @@ use Rattle.device_schedule.specs.Schedule.{core_answer, core_state}
 use Rattle.device_text.specs.Job.{schedule_text, end_line, closed, given, most_bytes}
 use Rattle.device_schedule.specs.Turns.{Turn, after_turns, IsTrace}
 use Rattle.device_text.specs.Trace.{trace_text}
-use Rattle.device_run.specs.Run.{Steps}
+use Rattle.access_order.specs.Order.{unused, after_runs}
+use Rattle.device_run.specs.Run.{Steps, Rests}
 use Rattle.job_reader.specs.Stream.{bytes_left}
 use Rattle.job_reader.specs.Lines.{Finds, IsNext, Gone, IsCut, size_of}
+use Rattle.usbrun.specs.Written.{AreInOrder}
 use Rattle.usbrun.specs.Texts.{Took, Hears, HandsOut, trace_part, added_where, texts_of}
 use Rattle.job_reader.specs.declared.lines.Next.{Next}
 use Rattle.usbrun.specs.declared.texts.Texts.{Texts}
@@ -155,6 +157,11 @@ abbrev pub trace_faults_at : Option Stop → ℕ → ℕ
 trace_faults_at None n = n
 trace_faults_at (Some s) n = trace_faults s n
 
+-- the accesses of these lines are in order, and those of the next one will be
+pub record StayInOrder (turns : List Turn) : Type 0 where
+  pub in_order : AreInOrder turns
+  pub rests : Rests (after_runs unused (map (λ turn. turn.accesses) turns))
+
 -- from the schedule's start, these lines were read and answered
 pub record Progress (left left' : Option (List ℕ)) (took took' : Took) (old new : Session) : Type 0 where
   pub lines : List DevLine
@@ -162,6 +169,7 @@ pub record Progress (left left' : Option (List ℕ)) (took took' : Took) (old ne
   pub gone : Gone left left' old.lines new.lines (schedule_text lines) (length lines)
   pub turns : List Turn
   pub traces : IsTrace old.run.set lines turns
+  pub order : StayInOrder turns
   pub trace : Takes took.trace took'.trace (trace_text turns)
   pub hands : HandsOut took.out took'.out (texts_of old.texts.regs turns) new.texts
   pub set : new.run.set ≡ old.run.set
@@ -190,6 +198,7 @@ pub record Runs (s : Stop) (left left' : Option (List ℕ)) (took took' : Took) 
   pub gone : Gone left left' old.lines new.lines (schedule_text lines) (length lines)
   pub turns : List Turn
   pub traces : IsTrace old.run.set lines turns
+  pub in_order : AreInOrder turns
   pub sinks : Sinks s took took' old.texts.regs turns new.texts
   pub short : new.lines.count ≤ most_bytes
   pub few : new.lines.lines ≤ new.lines.count

@@ -1,8 +1,9 @@
 -- What the sinks took of the texts of a schedule.
-use Rattle.std.specs.Prelude.{◌≡◌, ℕ, List, [], ◌++◌, map, Bool, Option}
+use Rattle.std.specs.Prelude.{◌≡◌, ℕ, List, [], ◌++◌, map, Bool, true, Option}
 use Rattle.usb_edge.specs.Stream.{Takes, TakesFront}
 use Rattle.device_line.specs.declared.line.DevLine.{DevLine}
 use Rattle.usb_text.specs.declared.head.HeadLine.{HeadLine}
+use Rattle.access_order.specs.Order.{are_runs, unused}
 use Rattle.device_schedule.specs.Schedule.{answers}
 use Rattle.device_text.specs.Answers.{device_text}
 use Rattle.device_schedule.specs.Turns.{Turn, IsTrace}
@@ -45,11 +46,16 @@ ways left left' src_faults src_faults' taken taken' out_faults out_faults' trace
   trace_faults' = trace_faults';
 }
 
+-- the accesses of these lines, one line after another from the opened state on, are in the order that silicon needs
+abbrev pub AreInOrder : List Turn → Type 0
+AreInOrder turns = are_runs unused (map (λ turn. turn.accesses) turns) ≡ true
+
 -- Each sink took its text and nothing else: the trace's one that of the schedule's lines with their accesses and answers.
 -- Of a sink that tells nothing its text is still one of a real trace.
 pub record Writes (regs : Bool) (head : List HeadLine) (schedule : List DevLine) (w : Ways) : Type 0 where
   pub turns : List Turn
   pub is_trace : IsTrace (set_of head) schedule turns
+  pub in_order : AreInOrder turns
   pub trace : Takes w.traced w.traced' (trace_text turns)
   -- without its register lines the trace's text is that of the answers
   pub told : without_registers (trace_text turns) ≡ device_text (set_of head) schedule
@@ -60,6 +66,7 @@ pub record Writes (regs : Bool) (head : List HeadLine) (schedule : List DevLine)
 pub record WritesFront (regs : Bool) (head : List HeadLine) (schedule : List DevLine) (w : Ways) : Type 0 where
   pub turns : List Turn
   pub is_trace : IsTrace (set_of head) schedule turns
+  pub in_order : AreInOrder turns
   pub trace : TakesFront w.traced w.traced' (trace_text turns)
   pub out : TakesFront w.taken w.taken' (out_text regs turns (answers (set_of head) schedule))
   -- those first lines, and the others
