@@ -109,3 +109,39 @@ fn hears_a_setup(rt: HostRuntime) {
     assert!(rt; matches!(state, Answer::Reply(Reply::Core(0, 0))));
     assert!(rt; run.trace().is_empty());
 }
+
+/// The run behind that task writes the size of the packet before it enables the endpoint, then its words, the lowest byte
+/// first, clears XFRC and ends the NAK last. Since no more data comes, it arms the status stage: one packet of 64 bytes and
+/// three SETUPs, EPENA and CNAK.
+#[test]
+fn loads_a_descriptor(rt: HostRuntime) {
+    let mut run = opened(&rt, rt.alloc());
+    let mut disks = FileDisks::new();
+    let setup = BusEvent::Setup {
+        addr: 0,
+        bytes: DESCRIPTOR,
+        ok: true,
+    };
+    run.step(&DevLine::Bus(BusEvent::Reset), &mut disks);
+    run.step(&DevLine::Irq, &mut disks);
+    run.step(&DevLine::Bus(setup), &mut disks);
+    run.step(&DevLine::Irq, &mut disks);
+    run.step(&DevLine::Task, &mut disks);
+    run.step(&DevLine::Irq, &mut disks);
+    let expected = [
+        (false, 0x14, 0x0004_0000),
+        (false, 0x20, 0),
+        (true, 0x910, 0x0008_0012),
+        (true, 0x900, 0x8800_0000),
+        (true, 0x1000, 0x0200_0112),
+        (true, 0x1000, 0x4000_0000),
+        (true, 0x1000, 0x4001_cafe),
+        (true, 0x1000, 0x0000_0100),
+        (true, 0x1000, 0x0000_0100),
+        (true, 0x908, 1),
+        (true, 0x900, 0x0400_0000),
+        (true, 0xb10, 0x6008_0040),
+        (true, 0xb00, 0x8400_0000),
+    ];
+    assert!(rt; were_made(run.trace(), &expected));
+}
