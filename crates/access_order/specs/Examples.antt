@@ -77,8 +77,8 @@ pub record InOrderLists : Type 0 where
   pub cleared_before : are_runs unused (load ∷ (acknowledged ++ w 0x910 0x00080000 ∷ w 0x900 0x88000000 ∷ w 0x900 0x04000000 ∷ []) ∷ []) ≡ true
   pub out_pipe : are_runs unused (reset ∷ arm_2 ∷ came_2 ∷ arm_2 ∷ reset ∷ arm_2 ∷ close ∷ arm_2 ∷ []) ≡ true
   pub in_pipe : are_runs unused (reset ∷ clear_1 ∷ load_1 ∷ once_1 ∷ (twice_1 ++ load_1) ∷ close ∷ load_1 ∷ clear_1 ∷ load_1 ∷ reset ∷ []) ≡ true
-  -- a size that is written again, and a run with no access
-  pub others : are_runs unused ((w 0x910 0x00080001 ∷ load) ∷ [] ∷ []) ≡ true
+  -- a size that is written again, a run with no access, and ENUMDNE cleared alone
+  pub others : are_runs unused ((w 0x910 0x00080001 ∷ load) ∷ [] ∷ (w 0x14 0x2000 ∷ acknowledged) ∷ []) ≡ true
 
 -- a. EPENA without a size of its own
 pub record Unsized : Type 0 where
@@ -102,9 +102,12 @@ pub record StrayWords : Type 0 where
 pub record StaleXfrc : Type 0 where
   pub never : is_run unused (w 0x910 0x00080000 ∷ w 0x900 0x88000000 ∷ w 0x900 0x04000000 ∷ []) ≡ false
   pub after_cnak : is_run unused (w 0x910 0x00080000 ∷ w 0x900 0x88000000 ∷ w 0x900 0x04000000 ∷ w 0x908 1 ∷ []) ≡ false
+  pub other_bit : is_run unused (w 0x910 0x00080000 ∷ w 0x900 0x88000000 ∷ w 0x908 2 ∷ w 0x900 0x04000000 ∷ []) ≡ false
   pub unseen : are_runs unused (load ∷ (w 0x908 1 ∷ []) ∷ []) ≡ false
   pub old : are_runs unused (load ∷ (r 0x908 0 ∷ w 0x910 0x00080000 ∷ w 0x900 0x88000000 ∷ w 0x900 0x04000000 ∷ []) ∷ []) ≡ false
   pub at_once : is_run unused (w 0x910 0x00080000 ∷ w 0x900 0x84000000 ∷ w 0x908 1 ∷ []) ≡ false
+  -- EPENA alone, where CNAK was written for the load before
+  pub alone : are_runs unused (load ∷ (r 0x908 1 ∷ w 0x910 0x00080000 ∷ w 0x900 0x80000000 ∷ []) ∷ []) ≡ false
   pub out : are_runs unused (arm ∷ (r 0x20 0x00060000 ∷ []) ∷ arm ∷ []) ≡ false
   pub out_read : are_runs unused (arm ∷ (r 0xb08 1 ∷ w 0xb08 2 ∷ []) ∷ arm ∷ []) ≡ false
   pub of_another : are_runs unused (arm_2 ∷ (r 0x20 0x00060002 ∷ w 0xb08 1 ∷ []) ∷ arm_2 ∷ []) ≡ false
@@ -112,7 +115,10 @@ pub record StaleXfrc : Type 0 where
 -- d. an access behind the CNAK of a load
 pub record BehindCnak : Type 0 where
   pub interrupts : is_run unused (load ++ r 0x908 0 ∷ []) ≡ false
+  pub other_bit : is_run unused (load ++ w 0x908 2 ∷ []) ≡ false
   pub size : is_run unused (load ++ w 0x910 0x00080000 ∷ []) ≡ false
+  pub size_read : is_run unused (load ++ r 0x910 0 ∷ []) ≡ false
+  pub control_read : is_run unused (load ++ r 0x900 0 ∷ []) ≡ false
   pub control : is_run unused (load ++ w 0x900 0x48000000 ∷ []) ≡ false
   pub twice : is_run unused (load ++ load) ≡ false
   pub state : is_run unused (load_1 ++ r 0x938 0 ∷ []) ≡ false

@@ -1,5 +1,5 @@
 //! Laws of the order of accesses. The functions do nothing.
-ghost use Rattle.access_order.specs.Laws.{Splits, WakesLast};
+ghost use Rattle.access_order.specs.Laws.{Splits, WakesLast, EnablingsWantSizes, WordsWantEnabling, AnsweringWantsClear};
 ghost use Rattle.access_order.specs.Examples.{InOrderLists, Unsized, StrayWords, StaleXfrc, BehindCnak, EndedReset};
 
 /// A list of accesses is in order exactly where its front is, and the rest is behind it.
@@ -10,6 +10,21 @@ pub fn lists_split()
 /// Nothing follows the write that clears USBRST.
 pub fn waking_is_last()
     ensures { WakesLast }
+{}
+
+/// An endpoint's size is written between two of its enablings, whatever else is accessed between them.
+pub fn sizes_come_between()
+    ensures { EnablingsWantSizes }
+{}
+
+/// Words come to an endpoint that wasn't enabled only where its control register was written.
+pub fn words_want_enabling()
+    ensures { WordsWantEnabling }
+{}
+
+/// An IN endpoint whose XFRC isn't known to be 0 is let answer only where DIEPINTx was written.
+pub fn answering_wants_clear()
+    ensures { AnsweringWantsClear }
 {}
 
 /// Worked lists that are in order: endpoint 0 through resets, SETUPs and both data stages, an OUT pipe and an IN pipe of two
