@@ -6,7 +6,7 @@ use Rattle.usb_packet.specs.declared.bus.BusAnswer.TheVariants as answers
 use Rattle.usb_packet.specs.Setup.{fields_of}
 use Rattle.usb_descriptor.specs.Set.{Set}
 use Rattle.device_line.specs.declared.line.DevLine.{DevLine}
-use Rattle.device_machine.specs.Bus.{hears, hears_setup, hears_in, after_setup, disturbed, finished_stage}
+use Rattle.device_machine.specs.Bus.{hears, hears_setup, after_setup, disturbed, finished_stage}
 use Rattle.device_machine.specs.Packets.{data_packets}
 use Rattle.device_machine.specs.Core.{Core, new_address}
 use Rattle.device_schedule.specs.Schedule.{core_after, core_state}
@@ -79,7 +79,7 @@ steps_read : (set : Set) (setup bytes : List ℕ) (packets : List (List ℕ)) (c
 steps_read set setup bytes packets core host [] e some h = h
 steps_read set setup bytes packets core host (Token addr fate ∷ steps) e some h =
     steps_read set setup bytes packets (core_after set core (line_of (Token addr fate))) (host_step core host (Token addr fate)) steps e some
-    (token_step set setup bytes packets core host (hears_in core.bus addr 0) fate h)
+    (token_step set setup bytes packets core host (hears core.bus addr) fate h)
 steps_read set setup bytes packets core host (Handler ∷ steps) e some h =
     steps_read set setup bytes packets (core_after set core (line_of Handler)) host steps e some (irq_step set setup bytes packets core host h)
 steps_read set setup bytes packets core host (Work ∷ steps) e some h =
@@ -141,5 +141,5 @@ reads_are_delivered set lines addr setup bytes r steps =
       front = few;
       joined = (concat few.0, bytes_of bytes asked host.took few.0 few.1);
       all = all bytes asked host.took few.0 few.1;
-      due = λ a ok. due set setup bytes packets core host (hears_in core.bus a 0) h;
+      due = λ a ok. due set setup bytes packets core host (hears core.bus a) h;
     }

@@ -12,10 +12,10 @@ use Rattle.device_machine.specs.declared.control.Side.{Side}
 use Rattle.device_machine.specs.declared.control.Side.TheVariants.{Off, Wait, Armed, Finished}
 use Rattle.device_machine.specs.Bus.{is_empty, in_answer, after_in, finished_stage, last_of}
 use Rattle.device_machine.specs.Packets.{data_packets}
-use Rattle.device_machine.specs.Core.{Core, Transfer, Idle, Sending, Ending, Addressing, new_address, with_stage, with_request, after_stages, after_irq, sending, with_data, begun, work_request, after_task}
+use Rattle.device_machine.specs.Core.{Core, Transfer, Idle, Sending, Ending, Addressing, new_address, with_stage, with_request, after_stages, after_irq, sending, with_data, begun, work_request, with_control_worked, after_task}
 use Rattle.device_laws.specs.Reading.{Fate, DataLost, AckLost, Whole, confirmed, Host, gets, host_token, toggle_at}
 use Rattle.device_laws.proofs.Stages.{some}
-use Rattle.device_laws.proofs.Progress.{starting, running, host_of, ready, Decides, Reads, heard, noted, waits, lacks, has, sent, told, over, toggle_more, gets_new, gets_old}
+use Rattle.device_laws.proofs.Progress.{starting, running, host_of, ready, Decides, Reads, heard, noted, waits, lacks, has, sent, told, over, served, worked, toggle_more, gets_new, gets_old}
 use Rattle.device_laws.proofs.Runs.{no_address}
 
 -- An IN token
@@ -23,7 +23,7 @@ use Rattle.device_laws.proofs.Runs.{no_address}
 -- the bus side after it, and the host
 abbrev pub core_token : Core → Bool → Fate → Core
 core_token core hears fate =
-    record core { bus = if hears && (confirmed fate && is_empty core.bus.unserved) then after_in core.bus core.bus.side else core.bus }
+    record core { bus = if hears && (confirmed fate && is_empty core.bus.unserved) then after_in core.bus core.bus.side else core.bus; pipes = if hears then core.pipes else core.pipes }
 
 abbrev pub answer_token : Core → Bool → BusAnswer
 answer_token core hears = if hears then (if is_empty core.bus.unserved then in_answer core.bus.side core.bus.toggle else answers.Nak) else answers.NoAnswer
@@ -130,19 +130,19 @@ serves set setup bytes packets base us side stage (Some found) transfer d = note
 pub irq_step : (set : Set) (setup bytes : List ℕ) (packets : List (List ℕ)) (core : Core) (host : Host) → Reads set setup bytes packets core host → Reads set setup bytes packets (after_irq core) host
 irq_step set setup bytes packets core host (heard base x xs side stage transfer l n d) =
     subst (λ a. Reads set setup bytes packets (after_stages (starting base (x ∷ xs) side stage None transfer) a) (host_of [])) (sym n)
-    (subst (λ o. Reads set setup bytes packets (with_request (with_stage (starting base (x ∷ xs) side stage None transfer) (finished_stage side)) o) (host_of [])) (sym l)
-    (serves set setup bytes packets base (x ∷ xs) side stage (finished_stage side) transfer d))
+    (served (subst (λ o. Reads set setup bytes packets (with_request (with_stage (starting base (x ∷ xs) side stage None transfer) (finished_stage side)) o) (host_of [])) (sym l)
+    (serves set setup bytes packets base (x ∷ xs) side stage (finished_stage side) transfer d)))
 irq_step set setup bytes packets core host (noted base stage transfer d) =
     subst (λ a. Reads set setup bytes packets (after_stages (starting base [] Off stage (Some setup) transfer) a) (host_of [])) (sym (no_address transfer))
-    (noted base stage transfer d)
-irq_step set setup bytes packets core host (waits base took packet rest e) = lacks base took packet rest e
-irq_step set setup bytes packets core host (lacks base took packet [] e) = lacks base took packet [] e
-irq_step set setup bytes packets core host (lacks base took packet (next ∷ rest) e) = lacks base took packet (next ∷ rest) e
-irq_step set setup bytes packets core host (has base took packet [] e) = has base took packet [] e
-irq_step set setup bytes packets core host (has base took packet (next ∷ rest) e) = has base took packet (next ∷ rest) e
-irq_step set setup bytes packets core host (sent base took next rest e) = told base took next rest e
-irq_step set setup bytes packets core host (told base took next rest e) = told base took next rest e
-irq_step set setup bytes packets core host (over base took e) = over base took e
+    (served (noted base stage transfer d))
+irq_step set setup bytes packets core host (waits base took packet rest e) = served (lacks base took packet rest e)
+irq_step set setup bytes packets core host (lacks base took packet [] e) = served (lacks base took packet [] e)
+irq_step set setup bytes packets core host (lacks base took packet (next ∷ rest) e) = served (lacks base took packet (next ∷ rest) e)
+irq_step set setup bytes packets core host (has base took packet [] e) = served (has base took packet [] e)
+irq_step set setup bytes packets core host (has base took packet (next ∷ rest) e) = served (has base took packet (next ∷ rest) e)
+irq_step set setup bytes packets core host (sent base took next rest e) = served (told base took next rest e)
+irq_step set setup bytes packets core host (told base took next rest e) = served (told base took next rest e)
+irq_step set setup bytes packets core host (over base took e) = served (over base took e)
 
 -- A task run
 
@@ -167,7 +167,7 @@ begins set setup bytes packets base side transfer e h d =
 -- while a SETUP waits for a handler run, it works the stage before
 works : (set : Set) (setup bytes : List ℕ) (packets : List (List ℕ)) (base : Core) (x : List ℕ) (xs : List (List ℕ)) (side : Side) (stage : Option Stage) (transfer : Transfer)
     → last_of (x ∷ xs) ≡ Some setup → new_address transfer (finished_stage side) ≡ None → Decides set setup bytes base
-    → Reads set setup bytes packets (after_task set (starting base (x ∷ xs) side stage None transfer)) (host_of [])
+    → Reads set setup bytes packets (with_control_worked set (starting base (x ∷ xs) side stage None transfer)) (host_of [])
 works set setup bytes packets base x xs side None transfer l n d = heard base x xs side None transfer l n d
 works set setup bytes packets base x xs side (Some Sent) (Sending []) l n d = heard base x xs side None Idle l refl d
 works set setup bytes packets base x xs side (Some Sent) (Sending (p ∷ ps)) l n d = heard base x xs (Wait p (is_empty ps)) None (Sending ps) l refl d
@@ -178,7 +178,7 @@ works set setup bytes packets base x xs side (Some stage) Idle l n d = heard bas
 
 takes_request : (set : Set) (setup bytes : List ℕ) (packets : List (List ℕ)) (base : Core) (stage : Option Stage) (transfer : Transfer) → packets ≡ data_packets bytes (fields_of setup).length
     → 0 < (fields_of setup).length → Decides set setup bytes base
-    → Reads set setup bytes packets (after_task set (starting base [] Off stage (Some setup) transfer)) (host_of [])
+    → Reads set setup bytes packets (with_control_worked set (starting base [] Off stage (Some setup) transfer)) (host_of [])
 takes_request set setup bytes packets base None transfer e h d = begins set setup bytes packets base Off transfer e h d
 takes_request set setup bytes packets base (Some Sent) (Sending []) e h d = begins set setup bytes packets base Off Idle e h d
 takes_request set setup bytes packets base (Some Sent) (Sending (p ∷ ps)) e h d = begins set setup bytes packets base (Wait p (is_empty ps)) (Sending ps) e h d
@@ -187,13 +187,17 @@ takes_request set setup bytes packets base (Some stage) Ending e h d = begins se
 takes_request set setup bytes packets base (Some stage) (Addressing a) e h d = begins set setup bytes packets base Off Idle e h d
 takes_request set setup bytes packets base (Some stage) Idle e h d = begins set setup bytes packets base Off Idle e h d
 
+control_step : (set : Set) (setup bytes : List ℕ) (packets : List (List ℕ)) (core : Core) (host : Host) → packets ≡ data_packets bytes (fields_of setup).length → 0 < (fields_of setup).length
+    → Reads set setup bytes packets core host → Reads set setup bytes packets (with_control_worked set core) host
+control_step set setup bytes packets core host e h (heard base x xs side stage transfer l n d) = works set setup bytes packets base x xs side stage transfer l n d
+control_step set setup bytes packets core host e h (noted base stage transfer d) = takes_request set setup bytes packets base stage transfer e h d
+control_step set setup bytes packets core host e h (waits base took packet rest p) = waits base took packet rest p
+control_step set setup bytes packets core host e h (lacks base took packet rest p) = lacks base took packet rest p
+control_step set setup bytes packets core host e h (has base took packet rest p) = has base took packet rest p
+control_step set setup bytes packets core host e h (sent base took next rest p) = sent base took next rest p
+control_step set setup bytes packets core host e h (told base took next rest p) = waits base took next rest p
+control_step set setup bytes packets core host e h (over base took p) = over base took p
+
 pub task_step : (set : Set) (setup bytes : List ℕ) (packets : List (List ℕ)) (core : Core) (host : Host) → packets ≡ data_packets bytes (fields_of setup).length → 0 < (fields_of setup).length
     → Reads set setup bytes packets core host → Reads set setup bytes packets (after_task set core) host
-task_step set setup bytes packets core host e h (heard base x xs side stage transfer l n d) = works set setup bytes packets base x xs side stage transfer l n d
-task_step set setup bytes packets core host e h (noted base stage transfer d) = takes_request set setup bytes packets base stage transfer e h d
-task_step set setup bytes packets core host e h (waits base took packet rest p) = waits base took packet rest p
-task_step set setup bytes packets core host e h (lacks base took packet rest p) = lacks base took packet rest p
-task_step set setup bytes packets core host e h (has base took packet rest p) = has base took packet rest p
-task_step set setup bytes packets core host e h (sent base took next rest p) = sent base took next rest p
-task_step set setup bytes packets core host e h (told base took next rest p) = waits base took next rest p
-task_step set setup bytes packets core host e h (over base took p) = over base took p
+task_step set setup bytes packets core host e some h = worked (control_step set setup bytes packets core host e some h)

@@ -6,6 +6,7 @@ use Rattle.device_machine.specs.declared.control.Stage.TheVariants.{Sent, Came}
 use Rattle.device_machine.specs.declared.control.Side.{Side}
 use Rattle.device_machine.specs.declared.control.Side.TheVariants.{Off, Wait, Loaded, Last, Armed, Stall, Finished}
 use Rattle.device_machine.specs.Bus.{finished_stage, last_of}
+use Rattle.device_machine.specs.Pipes.{Pipes}
 use Rattle.device_machine.specs.Core.{Core, Transfer, Idle, Sending, Ending, Addressing, new_address}
 use Rattle.device_laws.specs.Seen.{Attention, Deaf, Waiting, Listening, Seen, asked_address}
 
@@ -94,3 +95,20 @@ pub record Facts (core : Core) (seen : Seen) : Type 0 where
   pub settled : Quiet core.finished core.bus.side
   pub underway : Underway core.transfer core.bus.side
   pub small : Small core.transfer
+
+-- the pipes have no part in it
+pub facts_piped : (core : Core) (seen : Seen) (pipes : Pipes) → Facts core seen → Facts (record core { pipes = pipes }) seen
+facts_piped core seen pipes h = record {
+  attends = h.attends;
+  address = h.address;
+  bounded = h.bounded;
+  count = h.count;
+  noted = h.noted;
+  due = h.due;
+  matches = h.matches;
+  fresh = h.fresh;
+  quiet = h.quiet;
+  settled = h.settled;
+  underway = h.underway;
+  small = h.small;
+}

@@ -14,7 +14,9 @@ use Rattle.device_machine.specs.declared.control.Stage.TheVariants.{Sent}
 use Rattle.device_machine.specs.declared.control.Side.{Side}
 use Rattle.device_machine.specs.declared.control.Side.TheVariants.{Off, Wait, Loaded, Last, Armed, Finished}
 use Rattle.device_machine.specs.Bus.{is_empty, flipped, finished_stage, last_of}
-use Rattle.device_machine.specs.Core.{Core, Transfer, Sending, state_of, new_address}
+use Rattle.device_machine.specs.Core.{Core, Transfer, Sending, state_of, new_address, with_pipes_served, with_pipes_worked}
+use Rattle.device_machine.specs.Pipes.{Pipes, pipes_after_irq, pipes_after_task, halted_addresses}
+use Rattle.device_machine.proofs.Slots.{irq_keeps, task_keeps, halts_of}
 use Rattle.device_laws.specs.Reading.{Host, takes, gets, toggle_at}
 
 -- a device with a SETUP that no task has taken
@@ -65,6 +67,28 @@ pub data Reads (set : Set) (setup bytes : List ℕ) (packets : List (List ℕ)) 
   told : (base : Core) (took : List (List ℕ)) (next : List ℕ) (rest : List (List ℕ)) → packets ≡ took ++ next ∷ rest
       → Reads set setup bytes packets (running base Off (Some Sent) (next ∷ rest) (toggle_at (length took))) (host_of took)
   over : (base : Core) (took : List (List ℕ)) → packets ≡ took → Reads set setup bytes packets (running base Armed None [] (toggle_at (length took))) (host_of took)
+
+-- the pipes have no part in it, but for what they have halted
+pub decides : (set : Set) (setup bytes : List ℕ) (base : Core) (pipes : Pipes) → halted_addresses pipes ≡ halted_addresses base.pipes → Decides set setup bytes base → Decides set setup bytes (record base { pipes = pipes })
+decides set setup bytes base pipes e d = ap (λ halted. choice set (record { addr = base.bus.address; configured = base.session; halted = record { items = halted } }) (fields_of setup)) e ∙ d
+
+piped : {set : Set} {setup bytes : List ℕ} {packets : List (List ℕ)} {core : Core} {host : Host} (pipes : Pipes) → halted_addresses pipes ≡ halted_addresses core.pipes → Reads set setup bytes packets core host
+    → Reads set setup bytes packets (record core { pipes = pipes }) host
+piped {set = set} {setup = setup} {bytes = bytes} pipes same (heard base x xs side stage transfer l n d) = heard (record base { pipes = pipes }) x xs side stage transfer l n (decides set setup bytes base pipes same d)
+piped {set = set} {setup = setup} {bytes = bytes} pipes same (noted base stage transfer d) = noted (record base { pipes = pipes }) stage transfer (decides set setup bytes base pipes same d)
+piped pipes same (waits base took packet rest e) = waits (record base { pipes = pipes }) took packet rest e
+piped pipes same (lacks base took packet rest e) = lacks (record base { pipes = pipes }) took packet rest e
+piped pipes same (has base took packet rest e) = has (record base { pipes = pipes }) took packet rest e
+piped pipes same (sent base took next rest e) = sent (record base { pipes = pipes }) took next rest e
+piped pipes same (told base took next rest e) = told (record base { pipes = pipes }) took next rest e
+piped pipes same (over base took e) = over (record base { pipes = pipes }) took e
+
+-- a handler run and a task run serve them behind endpoint 0
+pub served : {set : Set} {setup bytes : List ℕ} {packets : List (List ℕ)} {core : Core} {host : Host} → Reads set setup bytes packets core host → Reads set setup bytes packets (with_pipes_served core) host
+served {core = core} h = piped (pipes_after_irq core.pipes) (halts_of (pipes_after_irq core.pipes) core.pipes (irq_keeps core.pipes)) h
+
+pub worked : {set : Set} {setup bytes : List ℕ} {packets : List (List ℕ)} {core : Core} {host : Host} → Reads set setup bytes packets core host → Reads set setup bytes packets (with_pipes_worked core) host
+worked {core = core} h = piped (pipes_after_task core.pipes) (halts_of (pipes_after_task core.pipes) core.pipes (task_keeps core.pipes)) h
 
 -- toggles alternate
 flip_at : (n : ℕ) → toggle_at (suc n) ≡ flipped (toggle_at n)

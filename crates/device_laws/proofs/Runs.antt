@@ -17,14 +17,15 @@ use Rattle.device_machine.specs.declared.control.Stage.{Stage}
 use Rattle.device_machine.specs.declared.control.Stage.TheVariants.{Sent, Came}
 use Rattle.device_machine.specs.declared.control.Side.{Side}
 use Rattle.device_machine.specs.declared.control.Side.TheVariants.{Off, Wait, Loaded, Last, Armed, Stall, Finished}
-use Rattle.device_machine.specs.Bus.{is_empty, loaded, hears_setup, hears_in, hears_out, finished_stage, last_of}
+use Rattle.device_machine.specs.Bus.{is_empty, loaded, hears, hears_setup, hears_packet, bus_after, pipes_after, finished_stage, last_of}
+use Rattle.device_machine.specs.Pipes.{pipes_after_irq, pipes_after_task, in_slot, in_slot_answer}
 use Rattle.device_machine.specs.Packets.{data_packets}
-use Rattle.device_machine.specs.Core.{Core, Transfer, Idle, Sending, Ending, Addressing, emptied, start, state_of, new_address, with_request, after_stages, sending, with_data, ending, changed, begun, after_task}
+use Rattle.device_machine.specs.Core.{Core, Transfer, Idle, Sending, Ending, Addressing, emptied, start, state_of, new_address, with_request, after_stages, sending, with_data, ending, changed, begun, with_pipes_served, with_control_worked, after_task}
 use Rattle.usb_packet.specs.declared.bus.Owner.TheVariants as owner
 use Rattle.device_schedule.specs.Schedule.{machine, state_after, core_after, core_state}
 use Rattle.device_laws.specs.Seen.{Attention, Deaf, Waiting, Listening, Seen, unseen, asked_address, served, seen_irq, seen_line, seen_after, seen_of}
 use Rattle.device_laws.proofs.Stages.{some}
-use Rattle.device_laws.proofs.Facts.{Attends, Quiet, Runs, Waits, Underway, Small, Serves, Matches, Fresh, Facts}
+use Rattle.device_laws.proofs.Facts.{Attends, Quiet, Runs, Waits, Underway, Small, Serves, Matches, Fresh, Facts, facts_piped}
 use Rattle.device_laws.proofs.Asks.{address_of, Bounded, Asks, asks}
 use Rattle.device_laws.proofs.Steps.{put, in_facts, out_facts, setup_facts}
 
@@ -139,10 +140,11 @@ stage_facts core seen transfer stage due h = record {
 
 -- and serves the SETUPs behind it
 noted_facts : (core : Core) (seen : Seen) (transfer : Transfer) (stage : Stage) → None ≡ seen.due → Facts (with_both core transfer (Finished stage)) seen
-    → Facts (with_request (record (with_both core transfer Off) { finished = Some stage }) (last_of core.bus.unserved)) (served seen None)
+    → Facts (with_pipes_served (with_request (record (with_both core transfer Off) { finished = Some stage }) (last_of core.bus.unserved))) (served seen None)
 noted_facts core seen transfer stage due h =
-    request_facts (record (with_both core transfer Off) { finished = Some stage }) seen core.bus.unserved core.bus.taken refl
-    (stage_facts core seen transfer stage due h)
+    let noted = record (with_both core transfer Off) { finished = Some stage } in
+    facts_piped (with_request noted (last_of core.bus.unserved)) (served seen None) (pipes_after_irq (with_request noted (last_of core.bus.unserved)).pipes)
+    (request_facts noted seen core.bus.unserved core.bus.taken refl (stage_facts core seen transfer stage due h))
 
 -- or sets the address
 address_facts : (core : Core) (seen : Seen) (n : ℕ) (stage : Stage) → Facts (with_both core (Addressing n) (Finished stage)) seen
@@ -163,8 +165,10 @@ address_facts core seen n stage h = record {
 }
 
 -- one that finds no stage
-empty_facts : (core : Core) (seen : Seen) → finished_stage core.bus.side ≡ None → Facts core seen → Facts (with_request core (last_of core.bus.unserved)) (served seen None)
-empty_facts core seen none h = request_facts core seen core.bus.unserved core.bus.taken none h
+empty_facts : (core : Core) (seen : Seen) → finished_stage core.bus.side ≡ None → Facts core seen → Facts (with_pipes_served (with_request core (last_of core.bus.unserved))) (served seen None)
+empty_facts core seen none h =
+    let served_core = with_request core (last_of core.bus.unserved) in
+    facts_piped served_core (served seen None) (pipes_after_irq served_core.pipes) (request_facts core seen core.bus.unserved core.bus.taken none h)
 
 irq_by : (core : Core) (seen : Seen) (transfer : Transfer) (side : Side) → Facts (with_both core transfer side) seen
     → Facts (after_stages (with_both core transfer side) (new_address transfer (finished_stage side))) (served seen (new_address transfer (finished_stage side)))
@@ -424,9 +428,9 @@ sends_on : (unserved : List (List ℕ)) (before after : List (List ℕ)) (reques
 sends_on [] before after request h = h
 sends_on (x ∷ xs) before after request h = h
 
-task_by : (set : Set) (core : Core) (seen : Seen) (stage : Option Stage) (request : Option (List ℕ)) (transfer : Transfer) → Facts (noting core stage request transfer) seen
-    → Facts (after_task set (noting core stage request transfer)) (without_note seen)
-task_by set core seen None None transfer h = record {
+control_by : (set : Set) (core : Core) (seen : Seen) (stage : Option Stage) (request : Option (List ℕ)) (transfer : Transfer) → Facts (noting core stage request transfer) seen
+    → Facts (with_control_worked set (noting core stage request transfer)) (without_note seen)
+control_by set core seen None None transfer h = record {
   attends = h.attends;
   address = h.address;
   bounded = h.bounded;
@@ -440,44 +444,46 @@ task_by set core seen None None transfer h = record {
   underway = h.underway;
   small = h.small;
 }
-task_by set core seen None (Some bytes) transfer h =
+control_by set core seen None (Some bytes) transfer h =
     behind set (noting core None None transfer) seen bytes (ready core seen None bytes transfer h) (noting core None (Some bytes) transfer)
-task_by set core seen (Some Sent) None (Sending []) h = rests core seen Sent (Sending []) h
-task_by set core seen (Some Sent) None (Sending (packet ∷ packets)) h =
+control_by set core seen (Some Sent) None (Sending []) h = rests core seen Sent (Sending []) h
+control_by set core seen (Some Sent) None (Sending (packet ∷ packets)) h =
     goes_on core seen (Some Sent) (Sending (packet ∷ packets)) (Sending packets) (Wait packet (is_empty packets)) h
     (due_off (noting core (Some Sent) None (Sending (packet ∷ packets))) seen h.settled h.due)
     (waits_for packets (is_empty packets)) refl tt (sends_on core.bus.unserved (packet ∷ packets) packets seen.request h.matches)
-task_by set core seen (Some (Came p)) None (Sending packets) h = rests core seen (Came p) (Sending packets) h
-task_by set core seen (Some stage) None Ending h = rests core seen stage Ending h
-task_by set core seen (Some stage) None (Addressing n) h = rests core seen stage (Addressing n) h
-task_by set core seen (Some stage) None Idle h = rests core seen stage Idle h
-task_by set core seen (Some Sent) (Some bytes) (Sending []) h =
+control_by set core seen (Some (Came p)) None (Sending packets) h = rests core seen (Came p) (Sending packets) h
+control_by set core seen (Some stage) None Ending h = rests core seen stage Ending h
+control_by set core seen (Some stage) None (Addressing n) h = rests core seen stage (Addressing n) h
+control_by set core seen (Some stage) None Idle h = rests core seen stage Idle h
+control_by set core seen (Some Sent) (Some bytes) (Sending []) h =
     behind set (with_both (noting core None None (Sending [])) Idle core.bus.side) seen bytes
     (other_transfer (noting core None None (Sending [])) seen bytes Idle core.bus.side (ready core seen (Some Sent) bytes (Sending []) h))
     core
-task_by set core seen (Some Sent) (Some bytes) (Sending (packet ∷ packets)) h =
+control_by set core seen (Some Sent) (Some bytes) (Sending (packet ∷ packets)) h =
     behind set (with_both (noting core None None (Sending (packet ∷ packets))) (Sending packets) (Wait packet (is_empty packets))) seen bytes
     (other_transfer (noting core None None (Sending (packet ∷ packets))) seen bytes (Sending packets) (Wait packet (is_empty packets)) (ready core seen (Some Sent) bytes (Sending (packet ∷ packets)) h))
     core
-task_by set core seen (Some (Came p)) (Some bytes) (Sending packets) h =
+control_by set core seen (Some (Came p)) (Some bytes) (Sending packets) h =
     behind set (with_both (noting core None None (Sending packets)) Idle core.bus.side) seen bytes
     (other_transfer (noting core None None (Sending packets)) seen bytes Idle core.bus.side (ready core seen (Some (Came p)) bytes (Sending packets) h))
     core
-task_by set core seen (Some stage) (Some bytes) Ending h =
+control_by set core seen (Some stage) (Some bytes) Ending h =
     behind set (with_both (noting core None None Ending) Idle core.bus.side) seen bytes
     (other_transfer (noting core None None Ending) seen bytes Idle core.bus.side (ready core seen (Some stage) bytes Ending h))
     core
-task_by set core seen (Some stage) (Some bytes) (Addressing n) h =
+control_by set core seen (Some stage) (Some bytes) (Addressing n) h =
     behind set (with_both (noting core None None (Addressing n)) Idle core.bus.side) seen bytes
     (other_transfer (noting core None None (Addressing n)) seen bytes Idle core.bus.side (ready core seen (Some stage) bytes (Addressing n) h))
     core
-task_by set core seen (Some stage) (Some bytes) Idle h =
+control_by set core seen (Some stage) (Some bytes) Idle h =
     behind set (with_both (noting core None None Idle) Idle core.bus.side) seen bytes
     (other_transfer (noting core None None Idle) seen bytes Idle core.bus.side (ready core seen (Some stage) bytes Idle h))
     core
 
 pub task_facts : (set : Set) (core : Core) (seen : Seen) → Facts core seen → Facts (after_task set core) (without_note seen)
-task_facts set core seen h = task_by set core seen core.finished core.request core.transfer h
+task_facts set core seen h =
+    let worked = with_control_worked set core in
+    facts_piped worked (without_note seen) (pipes_after_task worked.pipes) (control_by set core seen core.finished core.request core.transfer h)
 
 -- Each line
 
@@ -529,9 +535,13 @@ line_facts : (set : Set) (core : Core) (seen : Seen) (line : DevLine) → Facts 
 line_facts set core seen (Bus event.Reset) h = reset_facts core seen h
 line_facts set core seen (Bus (event.Setup addr bytes ok)) h = setup_facts core seen bytes (hears_setup core.bus addr ok) h
 line_facts set core seen (Bus (event.Out addr ep toggle packet ok)) h =
-    out_facts core seen core.bus.unserved core.bus.side core.bus.taken (hears_out core.bus addr ep packet ok) (ep == 0) toggle packet h
+    let e = event.Out addr ep toggle packet ok in
+    facts_piped (record core { bus = bus_after core.bus e }) seen (pipes_after core.bus core.pipes e)
+    (out_facts core seen core.bus.unserved core.bus.side core.bus.taken (hears_packet core.bus addr ok) (ep == 0) toggle packet h)
 line_facts set core seen (Bus (event.In addr ep ok)) h =
-    in_facts core seen core.bus.unserved core.bus.side core.bus.taken (hears_in core.bus addr ep) (ep == 0) ok h
+    let e = event.In addr ep ok in
+    facts_piped (record core { bus = bus_after core.bus e }) (seen_line core seen (Bus e)) (pipes_after core.bus core.pipes e)
+    (in_facts core seen core.bus.unserved core.bus.side core.bus.taken (hears core.bus addr) (ep == 0) ok (in_slot_answer (in_slot core.pipes ep)) h)
 line_facts set core seen Irq h = irq_holds core seen core.bus.awake core.bus.reset seen.attention h.attends h
 line_facts set core seen Task h = task_facts set core seen h
 line_facts set core seen (Call call) h = h

@@ -44,6 +44,9 @@ setup_is_heard set lines addr bytes ok =
 unheard : (b also : Bool) (a : BusAnswer) → b ≡ false → (if b && also then a else answers.NoAnswer) ≡ answers.NoAnswer
 unheard b also a e = ap (λ c. if c && also then a else answers.NoAnswer) e
 
+unheard_token : (b : Bool) (a : BusAnswer) → b ≡ false → (if b then a else answers.NoAnswer) ≡ answers.NoAnswer
+unheard_token b a e = ap (λ c. if c then a else answers.NoAnswer) e
+
 pub others_are_ignored : OthersAreIgnored
 others_are_ignored set lines addr e =
     let core = core_state set lines in
@@ -51,7 +54,7 @@ others_are_ignored set lines addr e =
     record {
       setup = λ bytes ok. unheard (hears core.bus addr) _ _ deaf;
       output = λ ep toggle packet ok. unheard (hears core.bus addr) _ _ deaf;
-      input = λ ep ok. unheard (hears core.bus addr) _ _ deaf;
+      input = λ ep ok. unheard_token (hears core.bus addr) _ deaf;
     }
 
 -- what a busy endpoint 0 holds
@@ -75,11 +78,11 @@ out_nak hears [] side taken toggle e h =
 out_nak hears (x ∷ xs) side taken toggle e h = ap (λ b. if b && true then answers.Nak else answers.NoAnswer) e
 
 in_nak : (hears : Bool) (unserved : List (List ℕ)) (side : Side) (taken : Bool) (toggle : Toggle) → hears ≡ true → Holds unserved side taken
-    → (if hears && true then (if is_empty unserved then in_answer side toggle else answers.Nak) else answers.NoAnswer) ≡ answers.Nak
+    → (if hears then (if is_empty unserved then in_answer side toggle else answers.Nak) else answers.NoAnswer) ≡ answers.Nak
 in_nak hears [] side taken toggle e h =
-    ap (λ b. if b && true then in_answer side toggle else answers.NoAnswer) e
+    ap (λ b. if b then in_answer side toggle else answers.NoAnswer) e
     ∙ ap (λ s. in_answer s toggle) (h.nothing refl).0
-in_nak hears (x ∷ xs) side taken toggle e h = ap (λ b. if b && true then answers.Nak else answers.NoAnswer) e
+in_nak hears (x ∷ xs) side taken toggle e h = ap (λ b. if b then answers.Nak else answers.NoAnswer) e
 
 pub busy_answers_nak : BusyAnswersNak
 busy_answers_nak set lines addr listening busy =

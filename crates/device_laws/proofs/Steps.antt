@@ -2,6 +2,7 @@
 use Rattle.std.proofs.Common.{◌≡◌, ℕ, List, [], ◌∷◌, ◌++◌, Bool, true, false, ◌&&◌, if◌then◌else◌, Option, Some, None, refl, sym, ap, ◌∙◌, arith, length-append}
 use Rattle.usb_packet.specs.declared.bus.Toggle.{Toggle}
 use Rattle.usb_packet.specs.declared.bus.Toggle.TheVariants.{D0, D1}
+use Rattle.usb_packet.specs.declared.bus.BusAnswer.{BusAnswer}
 use Rattle.usb_packet.specs.declared.bus.BusAnswer.TheVariants as answers
 use Rattle.device_machine.specs.declared.control.Stage.{Stage}
 use Rattle.device_machine.specs.declared.control.Stage.TheVariants.{Sent, Came}
@@ -86,19 +87,19 @@ in_taken core seen (Last packet) taken h = record {
   small = h.small;
 }
 
-pub in_facts : (core : Core) (seen : Seen) (unserved : List (List ℕ)) (side : Side) (taken hears zero_ep ok : Bool) → Facts (put core unserved side taken) seen
+pub in_facts : (core : Core) (seen : Seen) (unserved : List (List ℕ)) (side : Side) (taken hears zero_ep ok : Bool) (other : BusAnswer) → Facts (put core unserved side taken) seen
     → Facts
     (record core { bus = if hears && (ok && (zero_ep && is_empty unserved)) then after_in (put core unserved side taken).bus side else (put core unserved side taken).bus })
-    (if zero_ep && ok then given seen (if hears then (if zero_ep && is_empty unserved then in_answer side core.bus.toggle else answers.Nak) else answers.NoAnswer) else seen)
-in_facts core seen [] side taken true true true h = in_taken core seen side taken h
-in_facts core seen (x ∷ xs) side taken true true true h = h
-in_facts core seen unserved side taken true true false h = h
-in_facts core seen unserved side taken true false true h = h
-in_facts core seen unserved side taken true false false h = h
-in_facts core seen unserved side taken false true true h = h
-in_facts core seen unserved side taken false true false h = h
-in_facts core seen unserved side taken false false true h = h
-in_facts core seen unserved side taken false false false h = h
+    (if zero_ep && ok then given seen (if hears then (if zero_ep then (if is_empty unserved then in_answer side core.bus.toggle else answers.Nak) else other) else answers.NoAnswer) else seen)
+in_facts core seen [] side taken true true true other h = in_taken core seen side taken h
+in_facts core seen (x ∷ xs) side taken true true true other h = h
+in_facts core seen unserved side taken true true false other h = h
+in_facts core seen unserved side taken true false true other h = h
+in_facts core seen unserved side taken true false false other h = h
+in_facts core seen unserved side taken false true true other h = h
+in_facts core seen unserved side taken false true false other h = h
+in_facts core seen unserved side taken false false true other h = h
+in_facts core seen unserved side taken false false false other h = h
 
 -- a packet from the host that is taken
 came : (core : Core) (seen : Seen) (side : Side) (packet : List ℕ) → (side ≡ Off → ⊥) → Sends core.transfer → new_address core.transfer None ≡ seen.due

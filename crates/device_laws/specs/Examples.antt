@@ -11,11 +11,10 @@ use Rattle.device_line.specs.declared.line.DevLine.TheVariants.{Bus, Irq, Task, 
 use Rattle.device_line.specs.declared.call.DevCall.TheVariants.{State}
 use Rattle.device_line.specs.declared.line.Answer.{Answer}
 use Rattle.device_line.specs.declared.line.Answer.TheVariants as answer
-use Rattle.std.specs.List.{list_all, list_any}
-use Rattle.usb_control.specs.declared.state.Effect.TheVariants as effect
-use Rattle.usb_control.specs.Table.{is_at}
+use Rattle.usb_packet.specs.declared.bus.Owner.TheVariants.{Core}
+use Rattle.usb_descriptor.specs.declared.endpoint.EpKind.TheVariants.{Bulk}
 use Rattle.device_machine.specs.Packets.{numbers_from}
-use Rattle.device_machine.specs.Session.{halted_after}
+use Rattle.device_machine.specs.Pipes.{Pipes, pipes_unopened, session_pipes, with_halt, halted_addresses}
 use Rattle.device_schedule.specs.Schedule.{answers as schedule_answers}
 use Rattle.device_laws.specs.Reading.{IsRead}
 
@@ -276,6 +275,17 @@ pub record Addresses : Type 0 where
       (reset ++ passed (set_address 5) ++ (setup 5 get_device, ack) ∷ (Bus event.Reset, done) ∷ (setup 5 get_device, none) ∷ (setup 0 get_device, none)
       ∷ (Irq, done) ∷ (setup 5 get_device, none) ∷ (setup 0 get_device, ack) ∷ [])
 
+-- all endpoints but endpoint 0: numbers 1 to 15 in each direction (9.6.6)
+abbrev pub every_address : List ℕ
+every_address = numbers_from 1 15 ++ numbers_from 129 15
+
+abbrev pub all_open : Pipes
+all_open = session_pipes (map (λ a. record { addr = a; kind = Bulk; size = 64; owner = Core }) every_address) pipes_unopened
+
+abbrev pub all_halted : Pipes → List ℕ → Pipes
+all_halted pipes [] = pipes
+all_halted pipes (a ∷ addresses) = all_halted (with_halt pipes a) addresses
+
 -- Sessions and halts (9.4.1 to 9.4.10)
 pub record Sessions : Type 0 where
   -- a configuration begins a session, a reset ends it, and so does configuration 0
@@ -309,7 +319,8 @@ pub record Sessions : Type 0 where
       ++ read (get_endpoint_status 0x0f) (1 ∷ 0 ∷ []) ++ passed (set_interface 0 0) ++ read (get_endpoint_status 0x0f) (1 ∷ 0 ∷ [])
       ++ passed (set_interface 1 0) ++ read (get_endpoint_status 0x0f) (0 ∷ 0 ∷ []))
   -- every endpoint can be halted: numbers 1 to 15 in each direction (9.6.6)
-  pub each_halt : list_all (λ a. list_any (is_at a) (halted_after plain [] (effect.Halt a))) (numbers_from 1 15 ++ numbers_from 129 15) ≡ true
+  pub each_halt : map (λ a. halted_addresses (with_halt all_open a)) every_address ≡ map (λ a. a ∷ []) every_address
+  pub all_halts : halted_addresses (all_halted all_open every_address) ≡ every_address
   -- an interface's status is 0, in a session
   pub interface : IsAnswered powered
       (reset ++ refused (get_interface_status 0) ++ passed (set_configuration 3) ++ read (get_interface_status 1) (0 ∷ 0 ∷ [])

@@ -75,7 +75,7 @@ host_token host AckLost a = gets host a
 host_token host Whole a = gets host a
 
 abbrev pub host_step : Core → Host → Step → Host
-host_step core host (Token addr fate) = host_token host fate (bus_answer core.bus (event.In addr 0 (confirmed fate)))
+host_step core host (Token addr fate) = host_token host fate (bus_answer core.bus core.pipes (event.In addr 0 (confirmed fate)))
 host_step core host Handler = host
 host_step core host Work = host
 
@@ -124,12 +124,12 @@ pub record IsDelivered (bytes : List ℕ) (asked : ℕ) (core : Core) (host : Ho
   -- and once the stage is over they are all of it
   pub all : IsOver asked host.took → concat host.took ≡ take asked bytes
   -- whatever token comes next
-  pub due : (addr : ℕ) (ok : Bool) → IsDue (data_packets bytes asked) host.took (bus_answer core.bus (event.In addr 0 ok))
+  pub due : (addr : ℕ) (ok : Bool) → IsDue (data_packets bytes asked) host.took (bus_answer core.bus core.pipes (event.In addr 0 ok))
 
 -- a SETUP that a device acknowledges after these lines, and whose request gives bytes. No request before it waits for a task,
 -- and no new address for a handler run
 pub record IsRead (set : Set) (lines : List DevLine) (addr : ℕ) (setup bytes : List ℕ) : Type 0 where
-  pub heard : bus_answer (core_state set lines).bus (event.Setup addr setup true) ≡ answers.Ack
+  pub heard : bus_answer (core_state set lines).bus (core_state set lines).pipes (event.Setup addr setup true) ≡ answers.Ack
   pub alone : (seen_of set lines).noted ≡ false
   pub settled : (seen_of set lines).due ≡ None
   pub gives : choice set (state_of (core_state set lines)) (fields_of setup) ≡ Own (Data (record { items = bytes })) effect.None

@@ -81,7 +81,7 @@ seen_irq seen Listening = served seen seen.due
 
 -- what is seen after a line, by the device's answer to an event
 abbrev pub seen_line : Core → Seen → DevLine → Seen
-seen_line core seen (Bus e) = seen_event seen e (bus_answer core.bus e)
+seen_line core seen (Bus e) = seen_event seen e (bus_answer core.bus core.pipes e)
 seen_line core seen Irq = seen_irq seen seen.attention
 seen_line core seen Task = record seen { noted = false }
 seen_line core seen (Call call) = seen
@@ -117,15 +117,15 @@ listens_to seen addr = listens seen.attention && (addr == seen.address)
 -- endpoint 0 does (8.5.3). That limit of three is this controller's
 abbrev pub SetupIsHeard : Type 0
 SetupIsHeard = (set : Set) (lines : List DevLine) (addr : ℕ) (bytes : List ℕ) (ok : Bool)
-    → bus_answer (core_state set lines).bus (event.Setup addr bytes ok)
+    → bus_answer (core_state set lines).bus (core_state set lines).pipes (event.Setup addr bytes ok)
     ≡ (if listens_to (seen_of set lines) addr && (ok && nat_lt (seen_of set lines).unserved 3) then answers.Ack else answers.NoAnswer)
 
 -- a packet for no device, or for one that doesn't listen, isn't answered. That a device doesn't listen from a reset until it is
 -- served is this device's rule (9.2.6.2 gives it time to recover)
 pub record IsIgnored (core : Core) (addr : ℕ) : Type 0 where
-  pub setup : (bytes : List ℕ) (ok : Bool) → bus_answer core.bus (event.Setup addr bytes ok) ≡ answers.NoAnswer
-  pub output : (ep : ℕ) (toggle : Toggle) (packet : List ℕ) (ok : Bool) → bus_answer core.bus (event.Out addr ep toggle packet ok) ≡ answers.NoAnswer
-  pub input : (ep : ℕ) (ok : Bool) → bus_answer core.bus (event.In addr ep ok) ≡ answers.NoAnswer
+  pub setup : (bytes : List ℕ) (ok : Bool) → bus_answer core.bus core.pipes (event.Setup addr bytes ok) ≡ answers.NoAnswer
+  pub output : (ep : ℕ) (toggle : Toggle) (packet : List ℕ) (ok : Bool) → bus_answer core.bus core.pipes (event.Out addr ep toggle packet ok) ≡ answers.NoAnswer
+  pub input : (ep : ℕ) (ok : Bool) → bus_answer core.bus core.pipes (event.In addr ep ok) ≡ answers.NoAnswer
 
 abbrev pub OthersAreIgnored : Type 0
 OthersAreIgnored = (set : Set) (lines : List DevLine) (addr : ℕ) → listens_to (seen_of set lines) addr ≡ false → IsIgnored (core_state set lines) addr
@@ -136,8 +136,8 @@ is_busy seen = nat_lt 0 seen.unserved || seen.noted
 
 -- endpoint 0 answers NAK (8.5.3)
 pub record AnswersNak (core : Core) (addr : ℕ) : Type 0 where
-  pub output : (toggle : Toggle) (packet : List ℕ) → bus_answer core.bus (event.Out addr 0 toggle packet true) ≡ answers.Nak
-  pub input : (ok : Bool) → bus_answer core.bus (event.In addr 0 ok) ≡ answers.Nak
+  pub output : (toggle : Toggle) (packet : List ℕ) → bus_answer core.bus core.pipes (event.Out addr 0 toggle packet true) ≡ answers.Nak
+  pub input : (ok : Bool) → bus_answer core.bus core.pipes (event.In addr 0 ok) ≡ answers.Nak
 
 abbrev pub BusyAnswersNak : Type 0
 BusyAnswersNak = (set : Set) (lines : List DevLine) (addr : ℕ) → listens_to (seen_of set lines) addr ≡ true → is_busy (seen_of set lines) ≡ true → AnswersNak (core_state set lines) addr

@@ -1,1 +1,5 @@
+pub mod Slots
 pub mod Opens
+pub mod Apart
+pub mod Halts
+pub mod Told

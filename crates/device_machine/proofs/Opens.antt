@@ -1,58 +1,309 @@
 -- The open endpoints and the session stay together.
-use Rattle.std.proofs.Common.{◌≡◌, ℕ, zero, suc, List, [], ◌∷◌, Bool, true, false, ◌&&◌, if◌then◌else◌, Option, Some, None, refl, ◌∙◌}
-use Rattle.usb_packet.specs.declared.bus.Toggle.{Toggle}
+use Rattle.std.proofs.Common.{◌≡◌, ◌≢◌, ℕ, zero, suc, ◌+◌, ◌-◌, ◌<◌, List, [], ◌∷◌, length, map, replicate, Bool, true, false, ◌||◌, ◌==◌, if◌then◌else◌, Option, Some, None, refl, ap, sym, ◌∙◌, arith, subst}
+use Rattle.std.specs.Prelude.{slice_index_or, slice_set, nat_lt}
+use Rattle.std.specs.List.{list_any}
+use Rattle.std.proofs.lemmas.Bool.Decides.{nat_tests}
+use Rattle.std.proofs.lemmas.List.{get_or-set_other, length-set, length-map, length-replicate}
+use Rattle.std.proofs.lemmas.Grind.{get_or-set_at}
 use Rattle.usb_packet.specs.declared.bus.BusEvent.{BusEvent}
-use Rattle.usb_packet.specs.declared.bus.BusEvent.TheVariants as event
 use Rattle.usb_packet.specs.Setup.{fields_of}
 use Rattle.usb_pipe.specs.declared.decision.Decision.{Decision}
 use Rattle.usb_pipe.specs.declared.decision.Decision.TheVariants as decision
 use Rattle.usb_descriptor.specs.declared.endpoint.Endpoint.{Endpoint}
-use Rattle.usb_descriptor.specs.Set.{Set}
+use Rattle.usb_descriptor.specs.Set.{Set, is_addressed, endpoints_of, has_endpoint}
 use Rattle.usb_control.specs.declared.state.Effect.{Effect}
 use Rattle.usb_control.specs.declared.state.Effect.TheVariants as effect
 use Rattle.usb_control.specs.declared.state.Choice.{Choice}
 use Rattle.usb_control.specs.declared.state.Choice.TheVariants.{Own, Class}
 use Rattle.usb_control.specs.Table.{choice}
+use Rattle.device_pipe.specs.OutPipe as out
 use Rattle.device_machine.specs.declared.control.Stage.{Stage}
 use Rattle.device_machine.specs.declared.control.Stage.TheVariants.{Sent, Came}
-use Rattle.device_machine.specs.declared.control.Side.{Side}
-use Rattle.device_machine.specs.declared.control.Side.TheVariants.{Off, Wait, Loaded, Last, Armed, Stall, Finished}
-use Rattle.device_machine.specs.Bus.{Bus, bus_after, after_setup, after_out, after_in, takes, hears_setup, hears_out, hears_in, serves, finished_stage, last_of}
+use Rattle.device_machine.specs.Bus.{finished_stage, last_of}
 use Rattle.device_machine.specs.Packets.{data_packets}
-use Rattle.device_machine.specs.Core.{Core, Transfer, Idle, Sending, Ending, Addressing, emptied, start, state_of, after_bus, with_stage, with_request, after_stages, new_address, after_irq, sending, advanced, with_data, staged, changed, begun, work_stage, work_request, after_task}
-use Rattle.device_machine.specs.Laws.{IsOpen}
+use Rattle.device_machine.specs.Pipes.{Pipes, OutSlot, InSlot, no_endpoint, no_out_slot, no_in_slot, pipes_unopened, out_slot, in_slot, with_out_slot, with_in_slot, is_out_open, in_hears, pipes_closed, out_closed, in_closed, with_endpoint_open, with_endpoints_open, session_pipes, out_opened as opened_out, in_opened as opened_in, with_halt, without_halt, without_halts}
+use Rattle.device_machine.specs.Session.{opened}
+use Rattle.device_machine.specs.Core.{Core, Transfer, Idle, Sending, Ending, Addressing, emptied, start, state_of, after_bus, with_stage, with_request, after_plain_irq, after_stages, new_address, after_irq, sending, advanced, with_data, staged, changed, begun, work_stage, work_request, with_control_worked, after_task}
+use Rattle.device_machine.specs.Laws.{endpoint_at, AreOf, IsOutOf, IsInOf, IsOpen}
+use Rattle.device_machine.proofs.Slots.{Keep, Opened, out_opened, in_opened, out_at, in_at, outs_count, ins_count, irq_keeps, task_keeps, bus_keeps, opened_of, halt_keeps, clear_keeps, clears_keep}
 
--- of two bus sides with the same open endpoints, either has them
-either : (b : Bool) (x y : Bus) (es : List Endpoint) → x.endpoints ≡ es → y.endpoints ≡ es → (if b then x else y).endpoints ≡ es
-either true x y es ex ey = ex
-either false x y es ex ey = ey
+keep_of : (endpoints : List Endpoint) (new old : Pipes) → Keep out_opened in_opened new old → AreOf endpoints old → AreOf endpoints new
+keep_of endpoints new old k h = record {
+  outs = λ n few. record {
+    endpoint = ap (λ (s : Opened). s.endpoint) (out_at out_opened in_opened new old k (suc n)) ∙ (h.outs n few).endpoint;
+    opens = ap (λ (s : Opened). s.opens) (out_at out_opened in_opened new old k (suc n)) ∙ (h.outs n few).opens;
+  };
+  ins = λ n few. record {
+    endpoint = ap (λ (s : Opened). s.endpoint) (in_at out_opened in_opened new old k (suc n)) ∙ (h.ins n few).endpoint;
+    opens = ap (λ (s : Opened). s.opens) (in_at out_opened in_opened new old k (suc n)) ∙ (h.ins n few).opens;
+  };
+  outs_count = outs_count out_opened in_opened new old k ∙ h.outs_count;
+  ins_count = ins_count out_opened in_opened new old k ∙ h.ins_count;
+}
 
-in_open : (bus : Bus) (side : Side) → (after_in bus side).endpoints ≡ bus.endpoints
-in_open bus (Loaded packet) = refl
-in_open bus (Last packet) = refl
-in_open bus Off = refl
-in_open bus (Wait packet last) = refl
-in_open bus Armed = refl
-in_open bus Stall = refl
-in_open bus (Finished stage) = refl
+-- Opening.
 
-out_open : (bus : Bus) (toggle : Toggle) (packet : List ℕ) → (after_out bus toggle packet).endpoints ≡ bus.endpoints
-out_open bus toggle packet = either (takes bus.side bus.taken toggle) (record bus { side = Finished (Came packet); taken = true }) bus bus.endpoints refl refl
+-- an endpoint that is open, or not
+abbrev pub at : Endpoint → Bool → Opened
+at e opens = record { endpoint = e; opens = opens }
 
--- a bus event opens and closes nothing
-bus_open : (bus : Bus) (e : BusEvent) → (bus_after bus e).endpoints ≡ bus.endpoints
-bus_open bus event.Reset = refl
-bus_open bus (event.Setup addr bytes ok) = either (hears_setup bus addr ok) (after_setup bus bytes) bus bus.endpoints refl refl
-bus_open bus (event.Out addr ep toggle packet ok) =
-    either (hears_out bus addr ep packet ok && serves bus ep) (after_out bus toggle packet) bus bus.endpoints (out_open bus toggle packet) refl
-bus_open bus (event.In addr ep ok) =
-    either (hears_in bus addr ep && (ok && serves bus ep)) (after_in bus bus.side) bus bus.endpoints (in_open bus bus.side) refl
+ne_test : (a b : ℕ) → a ≢ b → (a == b) ≡ false
+ne_test a b e = grind (arith, nat_tests)
+
+same_of : (a b : ℕ) → (a == b) ≡ true → a ≡ b
+same_of a b e = grind (arith, nat_tests)
+
+other_of : (a b : ℕ) → (a == b) ≡ false → a ≢ b
+other_of a b e = grind (arith, nat_tests)
+
+out_set_by : (xs : List OutSlot) (m n : ℕ) (x : OutSlot) (b : Bool) → (suc m == suc n) ≡ b → n < length xs
+    → slice_index_or (slice_set xs m x) n no_out_slot ≡ (if b then x else slice_index_or xs n no_out_slot)
+out_set_by xs m n x true e h = get_or-set_at xs m n x no_out_slot (back m n (same_of (suc m) (suc n) e)) (subst (λ y. y < length xs) (back m n (same_of (suc m) (suc n) e)) h)
+  where
+    back : (m n : ℕ) → suc m ≡ suc n → n ≡ m
+    back m n e = omega arith
+out_set_by xs m n x false e h = get_or-set_other xs m n x no_out_slot (λ k. other_of (suc m) (suc n) e (ap suc (sym k)))
+
+in_set_by : (xs : List InSlot) (m n : ℕ) (x : InSlot) (b : Bool) → (suc m == suc n) ≡ b → n < length xs
+    → slice_index_or (slice_set xs m x) n no_in_slot ≡ (if b then x else slice_index_or xs n no_in_slot)
+in_set_by xs m n x true e h = get_or-set_at xs m n x no_in_slot (back m n (same_of (suc m) (suc n) e)) (subst (λ y. y < length xs) (back m n (same_of (suc m) (suc n) e)) h)
+  where
+    back : (m n : ℕ) → suc m ≡ suc n → n ≡ m
+    back m n e = omega arith
+in_set_by xs m n x false e h = get_or-set_other xs m n x no_in_slot (λ k. other_of (suc m) (suc n) e (ap suc (sym k)))
+
+out_set : (p : Pipes) (a n : ℕ) (x : OutSlot) → n < length p.outs → out_slot (with_out_slot p a x) (suc n) ≡ (if a == suc n then x else out_slot p (suc n))
+out_set p zero n x h = ap (λ b. if b then x else out_slot p (suc n)) (sym (ne_test 0 (suc n) (zero_not n)))
+  where
+    zero_not : (n : ℕ) → 0 ≢ suc n
+    zero_not n e = omega (arith, e)
+out_set p (suc m) n x h = out_set_by p.outs m n x (suc m == suc n) refl h
+
+in_set : (p : Pipes) (a n : ℕ) (x : InSlot) → n < length p.ins → in_slot (with_in_slot p a x) (suc n) ≡ (if a == suc n then x else in_slot p (suc n))
+in_set p zero n x h = ap (λ b. if b then x else in_slot p (suc n)) (sym (ne_test 0 (suc n) (zero_not n)))
+  where
+    zero_not : (n : ℕ) → 0 ≢ suc n
+    zero_not n e = omega (arith, e)
+in_set p (suc m) n x h = in_set_by p.ins m n x (suc m == suc n) refl h
+
+opens_out : (e : Endpoint) (s : OutSlot) → out_opened (opened_out e s) ≡ at e true
+opens_out e s = ap (λ b. record { endpoint = e; opens = b }) (by (out.leaves_packet s.pipe.phase))
+  where
+    by : (b : Bool) → is_out_open (if b then out.Stale else out.Rest) ≡ true
+    by true = refl
+    by false = refl
+
+opens_in : (e : Endpoint) (s : InSlot) → in_opened (opened_in e s) ≡ at e true
+opens_in e s = refl
+
+or_true : (b : Bool) → (b || true) ≡ true
+or_true true = refl
+or_true false = refl
+
+or_false : (b : Bool) → (b || false) ≡ b
+or_false true = refl
+or_false false = refl
+
+or_assoc : (a b c : Bool) → ((a || b) || c) ≡ (a || (b || c))
+or_assoc true b c = refl
+or_assoc false b c = refl
+
+stays_out : (s : OutSlot) → out_opened s ≡ at s.endpoint (is_out_open s.pipe.phase || false)
+stays_out s = ap (at s.endpoint) (sym (or_false (is_out_open s.pipe.phase)))
+
+stays_in : (s : InSlot) → in_opened s ≡ at s.endpoint (in_hears s || false)
+stays_in s = ap (at s.endpoint) (sym (or_false (in_hears s)))
+
+out_choice : (e : Endpoint) (s : OutSlot) (b : Bool) → out_opened (if b then opened_out e s else s) ≡ at (if b then e else s.endpoint) (is_out_open s.pipe.phase || b)
+out_choice e s true = opens_out e s ∙ ap (at e) (sym (or_true (is_out_open s.pipe.phase)))
+out_choice e s false = stays_out s
+
+in_choice : (e : Endpoint) (s : InSlot) (b : Bool) → in_opened (if b then opened_in e s else s) ≡ at (if b then e else s.endpoint) (in_hears s || b)
+in_choice e s true = opens_in e s ∙ ap (at e) (sym (or_true (in_hears s)))
+in_choice e s false = stays_in s
+
+-- what is known of a slot, one level up
+spread : (a : ℕ) (es : List Endpoint) (s : OutSlot) (e : Endpoint) (b : Bool) → out_opened s ≡ at e b
+    → at (endpoint_at a s.endpoint es) (is_out_open s.pipe.phase || list_any (is_addressed a) es) ≡ at (endpoint_at a e es) (b || list_any (is_addressed a) es)
+spread a es s e b h = ap (λ (x : Opened). record { endpoint = endpoint_at a x.endpoint es; opens = x.opens || list_any (is_addressed a) es }) h
+
+spread_in : (a : ℕ) (es : List Endpoint) (s : InSlot) (e : Endpoint) (b : Bool) → in_opened s ≡ at e b
+    → at (endpoint_at a s.endpoint es) (in_hears s || list_any (is_addressed a) es) ≡ at (endpoint_at a e es) (b || list_any (is_addressed a) es)
+spread_in a es s e b h = ap (λ (x : Opened). record { endpoint = endpoint_at a x.endpoint es; opens = x.opens || list_any (is_addressed a) es }) h
+
+based : (a : ℕ) (es : List Endpoint) (s : OutSlot) → out_opened s ≡ at no_endpoint false
+    → at (endpoint_at a s.endpoint es) (is_out_open s.pipe.phase || list_any (is_addressed a) es) ≡ at (endpoint_at a no_endpoint es) (list_any (is_addressed a) es)
+based a es s h = spread a es s no_endpoint false h
+
+based_in : (a : ℕ) (es : List Endpoint) (s : InSlot) → in_opened s ≡ at no_endpoint false
+    → at (endpoint_at a s.endpoint es) (in_hears s || list_any (is_addressed a) es) ≡ at (endpoint_at a no_endpoint es) (list_any (is_addressed a) es)
+based_in a es s h = spread_in a es s no_endpoint false h
+
+-- one endpoint is opened
+
+low_of : (a n : ℕ) → n < 15 → nat_lt a 128 ≡ false → (a == suc n) ≡ false
+low_of a n h e = grind (arith, nat_tests)
+
+high_of : (a n : ℕ) → nat_lt a 128 ≡ true → (a == 128 + suc n) ≡ false
+high_of a n e = grind (arith, nat_tests)
+
+moved_of : (a n : ℕ) → nat_lt a 128 ≡ false → ((a - 128) == suc n) ≡ (a == 128 + suc n)
+moved_of a n e = grind (arith, nat_tests)
+
+pub out_by : (p : Pipes) (e : Endpoint) (n : ℕ) (low : Bool) → nat_lt e.addr 128 ≡ low → n < 15 → length p.outs ≡ 15
+    → out_opened (out_slot (if low then with_out_slot p e.addr (opened_out e (out_slot p e.addr)) else with_in_slot p (e.addr - 128) (opened_in e (in_slot p (e.addr - 128)))) (suc n))
+    ≡ at (if e.addr == suc n then e else (out_slot p (suc n)).endpoint) (is_out_open (out_slot p (suc n)).pipe.phase || (e.addr == suc n))
+out_by p e n true k h c = ap out_opened (out_set p e.addr n (opened_out e (out_slot p e.addr)) (subst (λ x. n < x) (sym c) h) ∙ same (e.addr == suc n) refl) ∙ out_choice e (out_slot p (suc n)) (e.addr == suc n)
+  where
+    same : (b : Bool) → (e.addr == suc n) ≡ b → (if b then opened_out e (out_slot p e.addr) else out_slot p (suc n)) ≡ (if b then opened_out e (out_slot p (suc n)) else out_slot p (suc n))
+    same true i = ap (λ x. opened_out e (out_slot p x)) (same_of e.addr (suc n) i)
+    same false i = refl
+out_by p e n false k h c = ap out_opened (other (e.addr - 128)) ∙ stays_out (out_slot p (suc n)) ∙ ap (λ b. at (if b then e else (out_slot p (suc n)).endpoint) (is_out_open (out_slot p (suc n)).pipe.phase || b)) (sym (low_of e.addr n h k))
+  where
+    other : (m : ℕ) → out_slot (with_in_slot p m (opened_in e (in_slot p m))) (suc n) ≡ out_slot p (suc n)
+    other zero = refl
+    other (suc m) = refl
+
+pub in_by : (p : Pipes) (e : Endpoint) (n : ℕ) (low : Bool) → nat_lt e.addr 128 ≡ low → n < 15 → length p.ins ≡ 15
+    → in_opened (in_slot (if low then with_out_slot p e.addr (opened_out e (out_slot p e.addr)) else with_in_slot p (e.addr - 128) (opened_in e (in_slot p (e.addr - 128)))) (suc n))
+    ≡ at (if e.addr == 128 + suc n then e else (in_slot p (suc n)).endpoint) (in_hears (in_slot p (suc n)) || (e.addr == 128 + suc n))
+in_by p e n false k h c =
+    ap in_opened (in_set p (e.addr - 128) n (opened_in e (in_slot p (e.addr - 128))) (subst (λ x. n < x) (sym c) h))
+    ∙ in_choice e (in_slot p (suc n)) ((e.addr - 128) == suc n)
+    ∙ ap (λ b. at (if b then e else (in_slot p (suc n)).endpoint) (in_hears (in_slot p (suc n)) || b)) (moved_of e.addr n k)
+in_by p e n true k h c = ap in_opened (other e.addr) ∙ stays_in (in_slot p (suc n)) ∙ ap (λ b. at (if b then e else (in_slot p (suc n)).endpoint) (in_hears (in_slot p (suc n)) || b)) (sym (high_of e.addr n k))
+  where
+    other : (m : ℕ) → in_slot (with_out_slot p m (opened_out e (out_slot p m))) (suc n) ≡ in_slot p (suc n)
+    other zero = refl
+    other (suc m) = refl
+
+count_outs : (p : Pipes) (m : ℕ) (x : OutSlot) → length (with_out_slot p m x).outs ≡ length p.outs
+count_outs p zero x = refl
+count_outs p (suc m) x = length-set p.outs m x
+
+count_ins : (p : Pipes) (m : ℕ) (x : InSlot) → length (with_in_slot p m x).ins ≡ length p.ins
+count_ins p zero x = refl
+count_ins p (suc m) x = length-set p.ins m x
+
+same_outs : (p : Pipes) (m : ℕ) (x : InSlot) → (with_in_slot p m x).outs ≡ p.outs
+same_outs p zero x = refl
+same_outs p (suc m) x = refl
+
+same_ins : (p : Pipes) (m : ℕ) (x : OutSlot) → (with_out_slot p m x).ins ≡ p.ins
+same_ins p zero x = refl
+same_ins p (suc m) x = refl
+
+pub outs_stay : (p : Pipes) (e : Endpoint) → length (with_endpoint_open p e).outs ≡ length p.outs
+outs_stay p e = by (nat_lt e.addr 128)
+  where
+    by : (b : Bool) → length (if b then with_out_slot p e.addr (opened_out e (out_slot p e.addr)) else with_in_slot p (e.addr - 128) (opened_in e (in_slot p (e.addr - 128)))).outs ≡ length p.outs
+    by true = count_outs p e.addr (opened_out e (out_slot p e.addr))
+    by false = ap length (same_outs p (e.addr - 128) (opened_in e (in_slot p (e.addr - 128))))
+
+pub ins_stay : (p : Pipes) (e : Endpoint) → length (with_endpoint_open p e).ins ≡ length p.ins
+ins_stay p e = by (nat_lt e.addr 128)
+  where
+    by : (b : Bool) → length (if b then with_out_slot p e.addr (opened_out e (out_slot p e.addr)) else with_in_slot p (e.addr - 128) (opened_in e (in_slot p (e.addr - 128)))).ins ≡ length p.ins
+    by true = ap length (same_ins p e.addr (opened_out e (out_slot p e.addr)))
+    by false = count_ins p (e.addr - 128) (opened_in e (in_slot p (e.addr - 128)))
+
+-- all of them
+
+counted : (es : List Endpoint) (p : Pipes) → length (with_endpoints_open p es).outs ≡ length p.outs
+counted [] p = refl
+counted (e ∷ es) p = counted es (with_endpoint_open p e) ∙ outs_stay p e
+
+counted_ins : (es : List Endpoint) (p : Pipes) → length (with_endpoints_open p es).ins ≡ length p.ins
+counted_ins [] p = refl
+counted_ins (e ∷ es) p = counted_ins es (with_endpoint_open p e) ∙ ins_stay p e
+
+outs_opened : (es : List Endpoint) (p : Pipes) (n : ℕ) → n < 15 → length p.outs ≡ 15
+    → out_opened (out_slot (with_endpoints_open p es) (suc n)) ≡ at (endpoint_at (suc n) (out_slot p (suc n)).endpoint es) (is_out_open (out_slot p (suc n)).pipe.phase || list_any (is_addressed (suc n)) es)
+outs_opened [] p n h c = stays_out (out_slot p (suc n))
+outs_opened (e ∷ es) p n h c =
+    let next = with_endpoint_open p e in
+    let one = out_by p e n (nat_lt e.addr 128) refl h c in
+    outs_opened es next n h (outs_stay p e ∙ c)
+    ∙ spread (suc n) es (out_slot next (suc n)) (if e.addr == suc n then e else (out_slot p (suc n)).endpoint) (is_out_open (out_slot p (suc n)).pipe.phase || (e.addr == suc n)) one
+    ∙ ap (at (endpoint_at (suc n) (if e.addr == suc n then e else (out_slot p (suc n)).endpoint) es)) (or_assoc (is_out_open (out_slot p (suc n)).pipe.phase) (e.addr == suc n) (list_any (is_addressed (suc n)) es))
+
+ins_opened : (es : List Endpoint) (p : Pipes) (n : ℕ) → n < 15 → length p.ins ≡ 15
+    → in_opened (in_slot (with_endpoints_open p es) (suc n)) ≡ at (endpoint_at (128 + suc n) (in_slot p (suc n)).endpoint es) (in_hears (in_slot p (suc n)) || list_any (is_addressed (128 + suc n)) es)
+ins_opened [] p n h c = stays_in (in_slot p (suc n))
+ins_opened (e ∷ es) p n h c =
+    let next = with_endpoint_open p e in
+    let one = in_by p e n (nat_lt e.addr 128) refl h c in
+    ins_opened es next n h (ins_stay p e ∙ c)
+    ∙ spread_in (128 + suc n) es (in_slot next (suc n)) (if e.addr == 128 + suc n then e else (in_slot p (suc n)).endpoint) (in_hears (in_slot p (suc n)) || (e.addr == 128 + suc n)) one
+    ∙ ap (at (endpoint_at (128 + suc n) (if e.addr == 128 + suc n then e else (in_slot p (suc n)).endpoint) es)) (or_assoc (in_hears (in_slot p (suc n))) (e.addr == 128 + suc n) (list_any (is_addressed (128 + suc n)) es))
+
+-- At the start, and where a session ends.
+
+none_opened : (n k : ℕ) → slice_index_or (replicate k no_out_slot) n no_out_slot ≡ no_out_slot
+none_opened n zero = refl
+none_opened zero (suc k) = refl
+none_opened (suc n) (suc k) = none_opened n k
+
+none_opened_in : (n k : ℕ) → slice_index_or (replicate k no_in_slot) n no_in_slot ≡ no_in_slot
+none_opened_in n zero = refl
+none_opened_in zero (suc k) = refl
+none_opened_in (suc n) (suc k) = none_opened_in n k
+
+pub unopened_of : AreOf [] pipes_unopened
+unopened_of = record {
+  outs = λ n few. record { endpoint = ap (λ (s : OutSlot). s.endpoint) (none_opened n 15); opens = ap (λ (s : OutSlot). is_out_open s.pipe.phase) (none_opened n 15) };
+  ins = λ n few. record { endpoint = ap (λ (s : InSlot). s.endpoint) (none_opened_in n 15); opens = ap in_hears (none_opened_in n 15) };
+  outs_count = length-replicate 15 no_out_slot;
+  ins_count = length-replicate 15 no_in_slot;
+}
+
+closed_out : (xs : List OutSlot) (n : ℕ) → out_opened (slice_index_or (map out_closed xs) n no_out_slot) ≡ at no_endpoint false
+closed_out [] n = refl
+closed_out (x ∷ xs) zero = refl
+closed_out (x ∷ xs) (suc n) = closed_out xs n
+
+closed_in : (xs : List InSlot) (n : ℕ) → in_opened (slice_index_or (map in_closed xs) n no_in_slot) ≡ at no_endpoint false
+closed_in [] n = refl
+closed_in (x ∷ xs) zero = refl
+closed_in (x ∷ xs) (suc n) = closed_in xs n
+
+pub closed_of : (p : Pipes) → length p.outs ≡ 15 → length p.ins ≡ 15 → AreOf [] (pipes_closed p)
+closed_of p co ci = record {
+  outs = λ n few. record { endpoint = ap (λ (s : Opened). s.endpoint) (closed_out p.outs n); opens = ap (λ (s : Opened). s.opens) (closed_out p.outs n) };
+  ins = λ n few. record { endpoint = ap (λ (s : Opened). s.endpoint) (closed_in p.ins n); opens = ap (λ (s : Opened). s.opens) (closed_in p.ins n) };
+  outs_count = length-map p.outs out_closed ∙ co;
+  ins_count = length-map p.ins in_closed ∙ ci;
+}
+
+-- where none is open, these are opened
+pub opened_from : (es : List Endpoint) (p : Pipes) → AreOf [] p → AreOf es (with_endpoints_open p es)
+opened_from es p h = record {
+  outs = λ n few.
+      let is = outs_opened es p n few h.outs_count ∙ based (suc n) es (out_slot p (suc n)) (shut_out n (h.outs n few)) in
+      record { endpoint = ap (λ (s : Opened). s.endpoint) is; opens = ap (λ (s : Opened). s.opens) is };
+  ins = λ n few.
+      let is = ins_opened es p n few h.ins_count ∙ based_in (128 + suc n) es (in_slot p (suc n)) (shut_in n (h.ins n few)) in
+      record { endpoint = ap (λ (s : Opened). s.endpoint) is; opens = ap (λ (s : Opened). s.opens) is };
+  outs_count = counted es p ∙ h.outs_count;
+  ins_count = counted_ins es p ∙ h.ins_count;
+}
+  where
+    shut_out : (n : ℕ) → IsOutOf [] p n → out_opened (out_slot p (suc n)) ≡ at no_endpoint false
+    shut_out n o = ap (λ e. at e (is_out_open (out_slot p (suc n)).pipe.phase)) o.endpoint ∙ ap (at no_endpoint) o.opens
+
+    shut_in : (n : ℕ) → IsInOf [] p n → in_opened (in_slot p (suc n)) ≡ at no_endpoint false
+    shut_in n o = ap (λ e. at e (in_hears (in_slot p (suc n)))) o.endpoint ∙ ap (at no_endpoint) o.opens
+
+pub session_of : (es : List Endpoint) (p : Pipes) → length p.outs ≡ 15 → length p.ins ≡ 15 → AreOf es (session_pipes es p)
+session_of es p co ci = opened_from es (pipes_closed p) (closed_of p co ci)
+
+-- Each step.
 
 pub first_open : (set : Set) → IsOpen set start
-first_open set = refl
+first_open set = unopened_of
 
 pub after_bus_open : (set : Set) (core : Core) (e : BusEvent) → IsOpen set core → IsOpen set (after_bus core e)
-after_bus_open set core e h = bus_open core.bus e ∙ h
+after_bus_open set core e h = keep_of (opened set core.session) (after_bus core e).pipes core.pipes (opened_of (after_bus core e).pipes core.pipes (bus_keeps core.bus core.pipes e)) h
 
 stage_open : (set : Set) (core : Core) (stage : Option Stage) → IsOpen set core → IsOpen set (with_stage core stage)
 stage_open set core None h = h
@@ -64,7 +315,9 @@ request_open set core (Some bytes) h = h
 
 stages_open : (set : Set) (core : Core) (address : Option ℕ) → IsOpen set core → IsOpen set (after_stages core address)
 stages_open set core None h =
-    request_open set (with_stage core (finished_stage core.bus.side)) (last_of core.bus.unserved) (stage_open set core (finished_stage core.bus.side) h)
+    let served = with_request (with_stage core (finished_stage core.bus.side)) (last_of core.bus.unserved) in
+    keep_of (opened set served.session) (after_plain_irq core).pipes served.pipes (opened_of (after_plain_irq core).pipes served.pipes (irq_keeps served.pipes))
+    (request_open set (with_stage core (finished_stage core.bus.side)) (last_of core.bus.unserved) (stage_open set core (finished_stage core.bus.side) h))
 stages_open set core (Some n) h = stage_open set core (finished_stage core.bus.side) h
 
 choose_open : (set : Set) (b : Bool) (x y : Core) → IsOpen set x → IsOpen set y → IsOpen set (if b then x else y)
@@ -73,7 +326,7 @@ choose_open set false x y hx hy = hy
 
 pub after_irq_open : (set : Set) (core : Core) → IsOpen set core → IsOpen set (after_irq core)
 after_irq_open set core h =
-    choose_open set core.bus.reset (emptied true) (after_stages core (new_address core.transfer (finished_stage core.bus.side))) refl
+    choose_open set core.bus.reset (emptied true) (after_stages core (new_address core.transfer (finished_stage core.bus.side))) unopened_of
     (stages_open set core (new_address core.transfer (finished_stage core.bus.side)) h)
 
 sending_open : (set : Set) (core : Core) (packets : List (List ℕ)) → IsOpen set core → IsOpen set (sending core packets)
@@ -100,10 +353,11 @@ staged_open set core decision.Stall e allowed h = h
 changed_open : (set : Set) (core : Core) (e : Effect) → IsOpen set core → IsOpen set (changed set core e)
 changed_open set core effect.None h = h
 changed_open set core (effect.Address n) h = h
-changed_open set core (effect.Configure begins) h = refl
-changed_open set core (effect.Halt a) h = h
-changed_open set core (effect.Clear a) h = h
-changed_open set core (effect.ClearInterface n) h = h
+changed_open set core (effect.Configure begins) h = session_of (opened set begins) core.pipes h.outs_count h.ins_count
+changed_open set core (effect.Halt a) h = keep_of (opened set core.session) (with_halt core.pipes a) core.pipes (halt_keeps core.pipes a) h
+changed_open set core (effect.Clear a) h = keep_of (opened set core.session) (without_halt core.pipes a) core.pipes (clear_keeps core.pipes a) h
+changed_open set core (effect.ClearInterface n) h =
+    keep_of (opened set core.session) (without_halts (has_endpoint set.config n) core.pipes (endpoints_of set.config)) core.pipes (clears_keep (has_endpoint set.config n) core.pipes (endpoints_of set.config)) h
 
 begun_open : (set : Set) (core : Core) (c : Choice) (allowed : ℕ) → IsOpen set core → IsOpen set (begun set core c allowed)
 begun_open set core (Own d e) allowed h = changed_open set (staged core d e allowed) e (staged_open set core d e allowed h)
@@ -120,4 +374,6 @@ work_request_open set core (Some bytes) h =
 
 pub after_task_open : (set : Set) (core : Core) → IsOpen set core → IsOpen set (after_task set core)
 after_task_open set core h =
-    work_request_open set (work_stage core core.finished) (work_stage core core.finished).request (work_stage_open set core core.finished h)
+    let worked = with_control_worked set core in
+    keep_of (opened set worked.session) (after_task set core).pipes worked.pipes (opened_of (after_task set core).pipes worked.pipes (task_keeps worked.pipes))
+    (work_request_open set (work_stage core core.finished) (work_stage core core.finished).request (work_stage_open set core core.finished h))

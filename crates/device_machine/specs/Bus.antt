@@ -1,8 +1,6 @@
--- What the bus sees of a device: USB 2.0, 8.4 to 8.6 and 9.1.1. Only endpoint 0 moves packets: each other one that is
--- open belongs to the core, which moves none.
-use Rattle.std.specs.Prelude.{ℕ, ◌+◌, ◌∷◌, ◌++◌, List, [], Bool, true, false, ◌==◌, ◌&&◌, ◌||◌, not, nat_lt, nat_le, length, if◌then◌else◌, Option, Some, None}
-use Rattle.std.specs.List.{list_any}
-use Rattle.usb_descriptor.specs.declared.endpoint.Endpoint.{Endpoint}
+-- What the bus sees of a device: USB 2.0, 8.4 to 8.6 and 9.1.1. `Bus` is its endpoint 0, and all that its endpoints have in
+-- common; `Pipes` are the others.
+use Rattle.std.specs.Prelude.{ℕ, ◌∷◌, ◌++◌, List, [], Bool, true, false, ◌==◌, ◌&&◌, not, nat_lt, length, if◌then◌else◌, Option, Some, None}
 use Rattle.usb_packet.specs.declared.bus.Toggle.{Toggle}
 use Rattle.usb_packet.specs.declared.bus.Toggle.TheVariants.{D0, D1}
 use Rattle.usb_packet.specs.declared.bus.BusEvent.{BusEvent}
@@ -13,6 +11,7 @@ use Rattle.device_machine.specs.declared.control.Stage.{Stage}
 use Rattle.device_machine.specs.declared.control.Stage.TheVariants.{Sent, Came}
 use Rattle.device_machine.specs.declared.control.Side.{Side}
 use Rattle.device_machine.specs.declared.control.Side.TheVariants.{Off, Wait, Loaded, Last, Armed, Stall, Finished}
+use Rattle.device_machine.specs.Pipes.{Pipes, out_slot, in_slot, with_out_slot, with_in_slot, out_slot_answer, in_slot_answer, out_slot_after, in_slot_after}
 
 pub record Bus : Type 0 where
   -- a handler run has served a reset since the last one
@@ -21,8 +20,6 @@ pub record Bus : Type 0 where
   pub reset : Bool
   -- the device address (9.4.6)
   pub address : ℕ
-  -- the endpoints other than 0 that are open
-  pub endpoints : List Endpoint
   -- the acknowledged SETUPs that no handler run has served, the oldest first
   pub unserved : List (List ℕ)
   -- what endpoint 0 holds ready
@@ -34,7 +31,7 @@ pub record Bus : Type 0 where
 
 -- at the start, and what a reset leaves but for `awake`
 abbrev pub unconfigured : Bool → Bus
-unconfigured awake = record { awake = awake; reset = false; address = 0; endpoints = []; unserved = []; side = Off; taken = false; toggle = D0 }
+unconfigured awake = record { awake = awake; reset = false; address = 0; unserved = []; side = Off; taken = false; toggle = D0 }
 
 -- the most SETUPs that lie unserved
 abbrev pub most_setups : ℕ
@@ -56,24 +53,11 @@ hears bus addr = bus.awake && (addr == bus.address)
 abbrev pub hears_setup : Bus → ℕ → Bool → Bool
 hears_setup bus addr ok = hears bus addr && (ok && nat_lt (length bus.unserved) most_setups)
 
--- whether an endpoint has packets of so many bytes from the host at a number; whether it has packets for the host.
--- IN is bit 7 of bEndpointAddress, and wMaxPacketSize the most bytes (9.6.6)
-abbrev pub is_out_for : ℕ → ℕ → Endpoint → Bool
-is_out_for ep bytes e = nat_lt ep 128 && ((e.addr == ep) && nat_le bytes e.size)
+-- and an OUT packet where it is undamaged
+abbrev pub hears_packet : Bus → ℕ → Bool → Bool
+hears_packet bus addr ok = hears bus addr && ok
 
-abbrev pub is_in_for : ℕ → Endpoint → Bool
-is_in_for ep e = e.addr == 128 + ep
-
--- an undamaged packet on endpoint 0, or on one that is open and has packets of this length
-abbrev pub hears_out : Bus → ℕ → ℕ → List ℕ → Bool → Bool
-hears_out bus addr ep packet ok =
-    hears bus addr && (ok && ((ep == 0) || list_any (is_out_for ep (length packet)) bus.endpoints))
-
-abbrev pub hears_in : Bus → ℕ → ℕ → Bool
-hears_in bus addr ep = hears bus addr && ((ep == 0) || list_any (is_in_for ep) bus.endpoints)
-
--- whether endpoint 0 answers by what it holds: an endpoint of the core answers NAK, and so does endpoint 0 while a
--- SETUP lies unserved
+-- whether endpoint 0 answers by what it holds: it answers NAK while a SETUP lies unserved
 abbrev pub serves : Bus → ℕ → Bool
 serves bus ep = (ep == 0) && is_empty bus.unserved
 
@@ -102,17 +86,24 @@ in_answer (Wait packet last) toggle = answers.Nak
 in_answer Armed toggle = answers.Nak
 in_answer (Finished stage) toggle = answers.Nak
 
+-- what endpoint 0 answers
+abbrev pub control_out_answer : Bus → Toggle → BusAnswer
+control_out_answer bus toggle = if is_empty bus.unserved then out_answer bus.side bus.taken toggle else answers.Nak
+
+abbrev pub control_in_answer : Bus → BusAnswer
+control_in_answer bus = if is_empty bus.unserved then in_answer bus.side bus.toggle else answers.Nak
+
 -- what the device answers
-abbrev pub bus_answer : Bus → BusEvent → BusAnswer
-bus_answer bus event.Reset = answers.Done
-bus_answer bus (event.Setup addr bytes ok) = if hears_setup bus addr ok then answers.Ack else answers.NoAnswer
-bus_answer bus (event.Out addr ep toggle packet ok) =
-    if hears_out bus addr ep packet ok
-    then (if serves bus ep then out_answer bus.side bus.taken toggle else answers.Nak)
+abbrev pub bus_answer : Bus → Pipes → BusEvent → BusAnswer
+bus_answer bus pipes event.Reset = answers.Done
+bus_answer bus pipes (event.Setup addr bytes ok) = if hears_setup bus addr ok then answers.Ack else answers.NoAnswer
+bus_answer bus pipes (event.Out addr ep toggle packet ok) =
+    if hears_packet bus addr ok
+    then (if ep == 0 then control_out_answer bus toggle else out_slot_answer (out_slot pipes ep) (length packet))
     else answers.NoAnswer
-bus_answer bus (event.In addr ep ok) =
-    if hears_in bus addr ep
-    then (if serves bus ep then in_answer bus.side bus.toggle else answers.Nak)
+bus_answer bus pipes (event.In addr ep ok) =
+    if hears bus addr
+    then (if ep == 0 then control_in_answer bus else in_slot_answer (in_slot pipes ep))
     else answers.NoAnswer
 
 -- what a SETUP leaves of what endpoint 0 held ready
@@ -156,14 +147,23 @@ after_in bus Armed = bus
 after_in bus Stall = bus
 after_in bus (Finished stage) = bus
 
--- the device after a bus event
+-- endpoint 0 after a bus event
 abbrev pub bus_after : Bus → BusEvent → Bus
 bus_after bus event.Reset = record bus { awake = false; reset = true }
 bus_after bus (event.Setup addr bytes ok) = if hears_setup bus addr ok then after_setup bus bytes else bus
 bus_after bus (event.Out addr ep toggle packet ok) =
-    if hears_out bus addr ep packet ok && serves bus ep then after_out bus toggle packet else bus
+    if hears_packet bus addr ok && serves bus ep then after_out bus toggle packet else bus
 bus_after bus (event.In addr ep ok) =
-    if hears_in bus addr ep && (ok && serves bus ep) then after_in bus bus.side else bus
+    if hears bus addr && (ok && serves bus ep) then after_in bus bus.side else bus
+
+-- the other endpoints after it: a packet moves the one that it is on
+abbrev pub pipes_after : Bus → Pipes → BusEvent → Pipes
+pipes_after bus pipes event.Reset = pipes
+pipes_after bus pipes (event.Setup addr bytes ok) = pipes
+pipes_after bus pipes (event.Out addr ep toggle packet ok) =
+    if hears_packet bus addr ok then with_out_slot pipes ep (out_slot_after (out_slot pipes ep) toggle packet) else pipes
+pipes_after bus pipes (event.In addr ep ok) =
+    if hears bus addr then with_in_slot pipes ep (in_slot_after (in_slot pipes ep) ok) else pipes
 
 -- the finished stage that a handler run finds
 abbrev pub finished_stage : Side → Option Stage

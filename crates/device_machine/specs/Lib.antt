@@ -1,3 +1,4 @@
+pub mod Pipes
 pub mod Bus
 pub mod Packets
 pub mod Session

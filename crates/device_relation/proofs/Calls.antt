@@ -58,7 +58,7 @@ turned t s m i o r side st may ip op pair toggle first packet not_loaded none ca
       rx = record { lie = st.rx.lie ∙ ap (λ es. record { left = []; entries = es ++ setups_entries m.unserved; depth = rx_depth FS4 }) (c.came ∙ sym came); counts = st.rx.counts; few = st.rx.few; are = st.rx.are };
       pipes = st.pipes;
       rest = st.rest;
-      core = record { awake = st.core.awake; reset = st.core.reset; address = st.core.address; endpoints = st.core.endpoints; landed = st.core.landed; asleep = st.core.asleep; next = tt };
+      core = record { awake = st.core.awake; reset = st.core.reset; address = st.core.address; landed = st.core.landed; asleep = st.core.asleep; next = tt };
     }
 
 -- STALL ended
@@ -152,6 +152,7 @@ start_for j p packet last f may hears is =
           (record { kept = c.in_kept; stall = c.in_stall; enabled = c.in_enabled; ready = never _ refl; holds = c.holds; size = never _ refl })
           (record { kept = c.out_kept; stall = c.out_stall; enabled = c.out_enabled; naks = never _ refl; toggle = λ h. c.out_toggle ∙ st.outs.toggle h; lies = λ h. c.out_nak ∙ st.outs.lies h })
           wait_wait c.in_toggle (ap (λ x. x || false) (sym f.heard ∙ hears)) is refl refl refl);
+      pipes = f.pipes;
       heard = f.heard;
       next_address = refl;
       reset = f.reset;
@@ -192,6 +193,7 @@ arm_for j p f may hears =
           (record { kept = c.in_kept; stall = c.in_stall; enabled = c.in_enabled; ready = never _ refl; holds = c.holds; size = never _ refl })
           (arm_out t s p.bus new.out0 o st may a c.out_toggle)
           armed_armed c.in_toggle (ap (λ x. x || false) (sym f.heard ∙ hears)) no_packet refl refl refl);
+      pipes = f.pipes;
       heard = f.heard;
       next_address = refl;
       reset = f.reset;
@@ -213,6 +215,7 @@ stall_for j p f may =
           (record { kept = refl; stall = refl; enabled = stays _ ∙ st.ins.enabled ∙ c.loaded; ready = never _ refl; holds = st.ins.holds ∙ ap tx_holding c.bytes; size = never _ refl })
           (record { kept = refl; stall = refl; enabled = stays _ ∙ st.outs.enabled ∙ c.armed; naks = never _ refl; toggle = st.outs.toggle; lies = λ h. nak_stays _ _ ∙ st.outs.lies h })
           stall_stall refl (or_true _) no_packet refl refl refl;
+      pipes = f.pipes;
       heard = f.heard;
       next_address = refl;
       reset = f.reset;
@@ -234,8 +237,9 @@ address_for j p n f h =
         rx = st.rx;
         pipes = st.pipes;
         rest = st.rest;
-        core = record { awake = st.core.awake; reset = st.core.reset; address = st.core.address; endpoints = st.core.endpoints; landed = st.core.landed; asleep = st.core.asleep; next = h };
+        core = record { awake = st.core.awake; reset = st.core.reset; address = st.core.address; landed = st.core.landed; asleep = st.core.asleep; next = h };
       };
+      pipes = f.pipes;
       heard = f.heard;
       next_address = refl;
       reset = f.reset;

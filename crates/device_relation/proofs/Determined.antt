@@ -69,21 +69,20 @@ side_is t s m st =
     ∙ ap (λ x. side_with (came_of m.side) (ready_by s.side t.in0.xfrc (is_loaded m.side) (is_armed m.side) (is_stalled m.side) x)) holds
     ∙ paired st.pair
 
-bus_eq : (x y : Bus) → x.awake ≡ y.awake → x.reset ≡ y.reset → x.address ≡ y.address → x.endpoints ≡ y.endpoints → x.unserved ≡ y.unserved → x.side ≡ y.side → x.taken ≡ y.taken → x.toggle ≡ y.toggle → x ≡ y
-bus_eq x y a b c d e f g h =
+bus_eq : (x y : Bus) → x.awake ≡ y.awake → x.reset ≡ y.reset → x.address ≡ y.address → x.unserved ≡ y.unserved → x.side ≡ y.side → x.taken ≡ y.taken → x.toggle ≡ y.toggle → x ≡ y
+bus_eq x y a b c e f g h =
     ap (λ v. record x { awake = v }) a
     ∙ ap (λ v. record x { awake = y.awake; reset = v }) b
     ∙ ap (λ v. record x { awake = y.awake; reset = y.reset; address = v }) c
-    ∙ ap (λ v. record x { awake = y.awake; reset = y.reset; address = y.address; endpoints = v }) d
-    ∙ ap (λ v. record x { awake = y.awake; reset = y.reset; address = y.address; endpoints = y.endpoints; unserved = v }) e
-    ∙ ap (λ v. record x { awake = y.awake; reset = y.reset; address = y.address; endpoints = y.endpoints; unserved = y.unserved; side = v }) f
-    ∙ ap (λ v. record x { awake = y.awake; reset = y.reset; address = y.address; endpoints = y.endpoints; unserved = y.unserved; side = y.side; taken = v }) g
-    ∙ ap (λ v. record x { awake = y.awake; reset = y.reset; address = y.address; endpoints = y.endpoints; unserved = y.unserved; side = y.side; taken = y.taken; toggle = v }) h
+    ∙ ap (λ v. record x { awake = y.awake; reset = y.reset; address = y.address; unserved = v }) e
+    ∙ ap (λ v. record x { awake = y.awake; reset = y.reset; address = y.address; unserved = y.unserved; side = v }) f
+    ∙ ap (λ v. record x { awake = y.awake; reset = y.reset; address = y.address; unserved = y.unserved; side = y.side; taken = v }) g
+    ∙ ap (λ v. record x { awake = y.awake; reset = y.reset; address = y.address; unserved = y.unserved; side = y.side; taken = y.taken; toggle = v }) h
 
 pub determined : (t : Table) (s : Software) (m : Bus) → Stands FS4 t s m → abstract (record { table = t; software = s }) ≡ m
 determined t s m st =
     let setups : setups_in t.rx.entries ≡ m.unserved = ap (λ (rx : Rx). setups_in rx.entries) st.rx.lie ∙ setups_in-is m.side m.unserved st.side.packet st.rx.are in
     let side = side_is t s m st in
-    bus_eq (abstract (record { table = t; software = s })) m (sym st.core.awake) (sym st.core.reset) (sym st.core.address) (sym st.core.endpoints) setups side
+    bus_eq (abstract (record { table = t; software = s })) m (sym st.core.awake) (sym st.core.reset) (sym st.core.address) setups side
     (ap (λ us. is_taken (some_lie us) s.heard (side_of t s)) setups ∙ ap (λ x. is_taken (some_lie m.unserved) s.heard x) side ∙ sym st.side.taken_is)
     (ap (λ us. toggle_of (is_seen (some_lie us) s.heard) t.in0.toggle) setups ∙ sym st.side.toggle_is)

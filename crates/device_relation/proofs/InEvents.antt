@@ -1,7 +1,6 @@
 -- A token for the device on the bus.
 use Rattle.std.proofs.Common.{◌≡◌, ℕ, suc, ◌-◌, ◌≤◌, List, [], ◌∷◌, ◌++◌, length, Bool, true, false, Option, Some, None, refl, ap, sym, ◌∙◌, arith, subst}
 use Rattle.std.specs.Prelude.{◌||◌, ◌&&◌, not, ◌==◌, if◌then◌else◌, IsTrue}
-use Rattle.std.specs.List.{list_any}
 use Rattle.usb_packet.specs.declared.bus.Toggle.{Toggle}
 use Rattle.usb_packet.specs.declared.bus.Toggle.TheVariants.{D0, D1}
 use Rattle.usb_packet.specs.declared.bus.BusAnswer.TheVariants as answers
@@ -10,7 +9,10 @@ use Rattle.device_machine.specs.declared.control.Stage.TheVariants.{Sent}
 use Rattle.device_machine.specs.declared.control.Side.{Side}
 use Rattle.device_machine.specs.declared.control.Side.TheVariants.{Off, Wait, Loaded, Last, Armed, Stall, Finished}
 use Rattle.device_machine.specs.Bus as bus
-use Rattle.device_machine.specs.Bus.{Bus, is_in_for}
+use Rattle.usb_descriptor.specs.Set.{is_core}
+use Rattle.device_pipe.specs.InPipe as in_pipe
+use Rattle.device_machine.specs.Pipes.{Pipes, InSlot, in_slot, in_hears, in_slot_answer}
+use Rattle.device_machine.specs.Bus.{Bus}
 use Rattle.dwc2_regs.specs.declared.access.TheConstants.{FS4}
 use Rattle.dwc2_fifo.specs.Tx.{Tx, first_with, without_first}
 use Rattle.device_table.specs.State.{Table, InEnd, rx_depth}
@@ -21,9 +23,10 @@ use Rattle.device_table.specs.Bus.{InOutcome, unheard_in, naks_in, stalls_in, se
 use Rattle.device_relation.specs.declared.software.Ready.{Ready}
 use Rattle.device_relation.specs.declared.software.Heard.{Heard}
 use Rattle.device_relation.specs.Software.{Software}
-use Rattle.device_relation.specs.Relation.{Stands, PipePart, Pair, off_off, wait_wait, loaded_loaded, loaded_sent, last_last, last_armed, armed_armed, last_came, armed_came}
+use Rattle.device_relation.specs.Relation.{Stands, InEndPart, in_kept, in_slot_of, abstract_pipes, Pair, off_off, wait_wait, loaded_loaded, loaded_sent, last_last, last_armed, armed_armed, last_came, armed_came}
 use Rattle.device_relation.specs.Relation.{stall_stall, loaded_off, last_off, armed_off, stall_off, IsPacket, bytes_of_side, loaded_bytes, is_loaded, is_armed, is_stalled, is_idle}
 use Rattle.device_relation.specs.Relation.{was_heard, is_seen, is_taken, toggle_of, some_lie, came_entries, setups_entries, tx_holding, one_packet, in_at, is_used}
+use Rattle.device_relation.proofs.Pipes.{in_slot_is}
 use Rattle.device_relation.proofs.SetupEvents.{hears_is, never, no_packet, not_zero}
 use Rattle.device_relation.proofs.OutEvents.{setup_lies_is, not_not, or_true, and_false}
 
@@ -93,15 +96,15 @@ two_tests : (h : Bool) → (h && true) ≡ h
 two_tests true = refl
 two_tests false = refl
 
-outcome_is : (t : Table) (s : Software) (m : Bus) (addr : ℕ) → Stands FS4 t s m → in_outcome t addr 0 ≡ outcome_of (bus.hears_in m addr 0) (some_lie m.unserved) m.side
+outcome_is : (t : Table) (s : Software) (m : Bus) (addr : ℕ) → Stands FS4 t s m → in_outcome t addr 0 ≡ outcome_of (bus.hears m addr) (some_lie m.unserved) m.side
 outcome_is t s m addr st =
     let c = t.in0.control in
     let packet = packet_ready 0 t.in0 in
-    ap (λ x. outcome_by (x && true) (setup_lies t) c.stall c.enabled c.nak packet) (hears_is t s m addr st.core)
-    ∙ ap (λ x. outcome_by (bus.hears_in m addr 0) x c.stall c.enabled c.nak packet) (setup_lies_is t s m st)
-    ∙ ap (λ x. outcome_by (bus.hears_in m addr 0) (some_lie m.unserved) x c.enabled c.nak packet) st.ins.stall
-    ∙ ap (λ x. outcome_by (bus.hears_in m addr 0) (some_lie m.unserved) (is_stalled m.side) x c.nak packet) st.ins.enabled
-    ∙ outcomes_agree (bus.hears_in m addr 0) (some_lie m.unserved) (is_stalled m.side) (is_loaded m.side) c.nak packet (loaded_bytes m.side) st.ins.ready
+    ap (λ x. outcome_by (x && true) (setup_lies t) c.stall c.enabled c.nak packet) (hears_is t s m addr st.core) ∙ ap (λ x. outcome_by x (setup_lies t) c.stall c.enabled c.nak packet) (two_tests (bus.hears m addr))
+    ∙ ap (λ x. outcome_by (bus.hears m addr) x c.stall c.enabled c.nak packet) (setup_lies_is t s m st)
+    ∙ ap (λ x. outcome_by (bus.hears m addr) (some_lie m.unserved) x c.enabled c.nak packet) st.ins.stall
+    ∙ ap (λ x. outcome_by (bus.hears m addr) (some_lie m.unserved) (is_stalled m.side) x c.nak packet) st.ins.enabled
+    ∙ outcomes_agree (bus.hears m addr) (some_lie m.unserved) (is_stalled m.side) (is_loaded m.side) c.nak packet (loaded_bytes m.side) st.ins.ready
     (λ h. packet_is t.in0 (loaded_bytes m.side) (loaded_packet m.side st.side.packet) (st.ins.size h) st.ins.holds)
 
 -- its toggle
@@ -141,12 +144,12 @@ answers_agree true false (Last p) its toggle h = ap (λ x. answers.Data x p) (h 
 serves_is : (us : List (List ℕ)) → not (some_lie us) ≡ bus.is_empty us
 serves_is us = not_not (bus.is_empty us)
 
-pub in0_answer : (t : Table) (s : Software) (m : Bus) (addr : ℕ) (ok : Bool) → Stands FS4 t s m
-    → table.bus_answer t (event.In addr 0 ok) ≡ bus.bus_answer m (event.In addr 0 ok)
-in0_answer t s m addr ok st =
+pub in0_answer : (t : Table) (s : Software) (m : Bus) (p : Pipes) (addr : ℕ) (ok : Bool) → Stands FS4 t s m
+    → table.bus_answer t (event.In addr 0 ok) ≡ bus.bus_answer m p (event.In addr 0 ok)
+in0_answer t s m p addr ok st =
     ap (table.in_answer t.in0.toggle) (outcome_is t s m addr st)
-    ∙ answers_agree (bus.hears_in m addr 0) (some_lie m.unserved) m.side t.in0.toggle m.toggle (toggle_is t s m st)
-    ∙ ap (λ x. if bus.hears_in m addr 0 then (if x then bus.in_answer m.side m.toggle else answers.Nak) else answers.NoAnswer) (serves_is m.unserved)
+    ∙ answers_agree (bus.hears m addr) (some_lie m.unserved) m.side t.in0.toggle m.toggle (toggle_is t s m st)
+    ∙ ap (λ x. if bus.hears m addr then (if x then bus.in_answer m.side m.toggle else answers.Nak) else answers.NoAnswer) (serves_is m.unserved)
 
 -- The packet is acknowledged.
 
@@ -244,7 +247,7 @@ sent_stands t s m st h =
       rx = record { lie = st.rx.lie ∙ ap (λ es. record { left = []; entries = es ++ setups_entries m.unserved; depth = rx_depth FS4 }) (sym r.came); counts = st.rx.counts; few = st.rx.few; are = st.rx.are };
       pipes = st.pipes;
       rest = st.rest;
-      core = record { awake = st.core.awake; reset = st.core.reset; address = st.core.address; endpoints = st.core.endpoints; landed = st.core.landed; asleep = st.core.asleep; next = st.core.next };
+      core = record { awake = st.core.awake; reset = st.core.reset; address = st.core.address; landed = st.core.landed; asleep = st.core.asleep; next = st.core.next };
     }
 
 after_by : InOutcome → Bool → Bus → Bus → Bus
@@ -297,12 +300,12 @@ pub in0_stands : (t : Table) (s : Software) (m : Bus) (addr : ℕ) (ok : Bool) �
     → Stands FS4 (table.after_bus t (event.In addr 0 ok)) s (bus.bus_after m (event.In addr 0 ok))
 unfolding after_by
 in0_stands t s m addr ok st =
-    let o = outcome_of (bus.hears_in m addr 0) (some_lie m.unserved) m.side in
+    let o = outcome_of (bus.hears m addr) (some_lie m.unserved) m.side in
     let P : InOutcome → Type 0 = λ o. Stands FS4 (table.after_in t 0 ok o) s (after_by o ok (sent_bus m) m) in
-    let all : P o = outcome_elim P (bus.hears_in m addr 0) (some_lie m.unserved) (is_stalled m.side) (is_loaded m.side) (loaded_bytes m.side) st st st (by_ack t s m ok st) in
+    let all : P o = outcome_elim P (bus.hears m addr) (some_lie m.unserved) (is_stalled m.side) (is_loaded m.side) (loaded_bytes m.side) st st st (by_ack t s m ok st) in
     let next : after_by o ok (sent_bus m) m ≡ bus.bus_after m (event.In addr 0 ok) =
-    nexts_agree (bus.hears_in m addr 0) (some_lie m.unserved) ok m.side m
-    ∙ ap (λ x. if bus.hears_in m addr 0 && (ok && x) then bus.after_in m m.side else m) (serves_is m.unserved) in
+    nexts_agree (bus.hears m addr) (some_lie m.unserved) ok m.side m
+    ∙ ap (λ x. if bus.hears m addr && (ok && x) then bus.after_in m m.side else m) (serves_is m.unserved) in
     subst (λ x. Stands FS4 (table.after_bus t (event.In addr 0 ok)) s x) next
     (subst (λ x. Stands FS4 (table.after_in t 0 ok x) s (after_by o ok (sent_bus m) m)) (sym (outcome_is t s m addr st)) all)
 
@@ -322,17 +325,16 @@ second : (a b : Bool) → (a && b) ≡ true → b ≡ true
 second true b h = h
 second false b h = never false refl h
 
-pipe_in_is : (t : Table) (s : Software) (m : Bus) (addr n : ℕ) → Stands FS4 t s m → in_outcome t addr (suc n) ≡ naks_or_unheard (bus.hears_in m addr (suc n))
+pipe_in_is : (t : Table) (s : Software) (m : Bus) (addr n : ℕ) → Stands FS4 t s m → in_outcome t addr (suc n) ≡ naks_or_unheard (bus.hears m addr && in_hears (in_slot_of (in_kept s.ins n)))
 pipe_in_is t s m addr n st =
-    let p : PipePart t.ins t.outs m.endpoints n = st.pipes n in
+    let p : InEndPart (in_at t.ins n) (in_kept s.ins n) = st.pipes.each_in n in
     let end = in_at t.ins n in
     let c = end.control in
     let packet = packet_ready (suc n) end in
-    let heard : (table.hears t addr && is_used c) ≡ bus.hears_in m addr (suc n) =
-    ap (λ x. x && is_used c) (hears_is t s m addr st.core) ∙ ap (λ x. bus.hears m addr && x) p.sends
-    ∙ ap (λ x. bus.hears m addr && (x || list_any (is_in_for (suc n)) m.endpoints)) (sym (not_zero n)) in
-    ap (λ x. outcome_by (table.hears t addr && is_used c) false x c.enabled c.nak packet) p.in_stall
-    ∙ pipe_naks (table.hears t addr && is_used c) c.enabled c.nak packet (λ h. p.in_naks (second (table.hears t addr) (is_used c) h))
+    let heard : (table.hears t addr && is_used c) ≡ (bus.hears m addr && in_hears (in_slot_of (in_kept s.ins n))) =
+    ap (λ x. x && is_used c) (hears_is t s m addr st.core) ∙ ap (λ x. bus.hears m addr && x) p.hears in
+    ap (λ x. outcome_by (table.hears t addr && is_used c) false x c.enabled c.nak packet) p.stall
+    ∙ pipe_naks (table.hears t addr && is_used c) c.enabled c.nak packet (λ h. p.naks (second (table.hears t addr) (is_used c) h))
     ∙ ap naks_or_unheard heard
 
 naks_answer : (toggle : Toggle) (h : Bool) → table.in_answer toggle (naks_or_unheard h) ≡ (if h then answers.Nak else answers.NoAnswer)
@@ -352,11 +354,24 @@ stays true true x m = refl
 stays true false x m = refl
 stays false ok x m = refl
 
+spread : (heard hears : Bool) → (if heard && hears then answers.Nak else answers.NoAnswer) ≡ (if heard then (if hears then answers.Nak else answers.NoAnswer) else answers.NoAnswer)
+spread true hears = refl
+spread false hears = refl
+
+-- an endpoint of the core answers NAK
+core_naks : (slot : InSlot) → is_core slot.endpoint.owner ≡ true → (if in_hears slot then answers.Nak else answers.NoAnswer) ≡ in_slot_answer slot
+core_naks slot e = ap (λ x. if in_hears slot then (if x then answers.Nak else in_pipe.in_answer slot.pipe) else answers.NoAnswer) (sym e)
+
 pub pipe_in_answer : (t : Table) (s : Software) (m : Bus) (addr n : ℕ) (ok : Bool) → Stands FS4 t s m
-    → table.bus_answer t (event.In addr (suc n) ok) ≡ bus.bus_answer m (event.In addr (suc n) ok)
+    → table.bus_answer t (event.In addr (suc n) ok) ≡ bus.bus_answer m (abstract_pipes (record { table = t; software = s })) (event.In addr (suc n) ok)
 pipe_in_answer t s m addr n ok st =
+    let slot = in_slot_of (in_kept s.ins n) in
+    let p = abstract_pipes (record { table = t; software = s }) in
     ap (table.in_answer (in_at t.ins n).toggle) (pipe_in_is t s m addr n st) ∙ naks_answer _ _
-    ∙ ap (λ x. if bus.hears_in m addr (suc n) then (if x && bus.is_empty m.unserved then bus.in_answer m.side m.toggle else answers.Nak) else answers.NoAnswer) (sym (not_zero n))
+    ∙ spread (bus.hears m addr) (in_hears slot)
+    ∙ ap (λ x. if bus.hears m addr then x else answers.NoAnswer) (core_naks slot (st.pipes.each_in n).core)
+    ∙ ap (λ x. if bus.hears m addr then in_slot_answer x else answers.NoAnswer) (sym (in_slot_is (record { table = t; software = s }) n st.pipes.ins_count))
+    ∙ ap (λ x. if bus.hears m addr then (if x then bus.control_in_answer m else in_slot_answer (in_slot p (suc n))) else answers.NoAnswer) (sym (not_zero n))
 
 pub pipe_in_stands : (t : Table) (s : Software) (m : Bus) (addr n : ℕ) (ok : Bool) → Stands FS4 t s m
     → Stands FS4 (table.after_bus t (event.In addr (suc n) ok)) s (bus.bus_after m (event.In addr (suc n) ok))
@@ -364,7 +379,7 @@ pipe_in_stands t s m addr n ok st =
     let same : t ≡ table.after_bus t (event.In addr (suc n) ok) =
     sym (ap (table.after_in t (suc n) ok) (pipe_in_is t s m addr n st) ∙ naks_after t (suc n) ok _) in
     let next : m ≡ bus.bus_after m (event.In addr (suc n) ok) =
-    stays (bus.hears_in m addr (suc n)) ok (bus.after_in m m.side) m
-    ∙ ap (λ x. if bus.hears_in m addr (suc n) && (ok && (x && bus.is_empty m.unserved)) then bus.after_in m m.side else m) (sym (not_zero n)) in
+    stays (bus.hears m addr) ok (bus.after_in m m.side) m
+    ∙ ap (λ x. if bus.hears m addr && (ok && (x && bus.is_empty m.unserved)) then bus.after_in m m.side else m) (sym (not_zero n)) in
     subst (λ x. Stands FS4 (table.after_bus t (event.In addr (suc n) ok)) s x) next
     (subst (λ x. Stands FS4 x s m) same st)

@@ -1,3 +1,4 @@
+pub mod Pipes
 pub mod Entries
 pub mod Determined
 pub mod SetupEvents
@@ -15,3 +16,4 @@ pub mod Calls
 pub mod Events
 pub mod Closes
 pub mod Opens
+pub mod Halts

@@ -89,7 +89,7 @@ loads t s m packet last st none =
       rx = record { lie = st.rx.lie; counts = st.rx.counts; few = st.rx.few; are = st.rx.are };
       pipes = st.pipes;
       rest = st.rest;
-      core = record { awake = st.core.awake; reset = st.core.reset; address = st.core.address; endpoints = st.core.endpoints; landed = st.core.landed; asleep = st.core.asleep; next = st.core.next };
+      core = record { awake = st.core.awake; reset = st.core.reset; address = st.core.address; landed = st.core.landed; asleep = st.core.asleep; next = st.core.next };
     })
 
 -- the last one, with OUT armed
@@ -147,7 +147,7 @@ arms_last t s m packet st x none new a = record {
   rx = record { lie = st.rx.lie; counts = st.rx.counts; few = st.rx.few; are = st.rx.are };
   pipes = st.pipes;
   rest = st.rest;
-  core = record { awake = st.core.awake; reset = st.core.reset; address = st.core.address; endpoints = st.core.endpoints; landed = st.core.landed; asleep = st.core.asleep; next = st.core.next };
+  core = record { awake = st.core.awake; reset = st.core.reset; address = st.core.address; landed = st.core.landed; asleep = st.core.asleep; next = st.core.next };
 }
 
 pub loads_last : (t : Table) (s : Software) (m : Bus) (packet : List ℕ) (last : Bool) → Stands FS4 t s (record m { side = Wait packet last }) → m.unserved ≡ []
@@ -172,6 +172,7 @@ loads_for : (t : Table) (s : Software) (p : Port) {x : Bool} {r : Ready} {side :
 unfolding with_loaded
 loads_for t s p (wait_wait {packet = packet} {last = true}) f none = record {
   stands = loads_last t (record s { side = ready.Wait packet true }) p.bus packet true f.stands none;
+  pipes = f.pipes;
   heard = f.heard;
   next_address = f.next_address;
   reset = f.reset;
@@ -180,6 +181,7 @@ loads_for t s p (wait_wait {packet = packet} {last = true}) f none = record {
 }
 loads_for t s p (wait_wait {packet = packet} {last = false}) f none = record {
   stands = loads t (record s { side = ready.Wait packet false }) p.bus packet false f.stands none;
+  pipes = f.pipes;
   heard = f.heard;
   next_address = f.next_address;
   reset = f.reset;

@@ -1,7 +1,6 @@
 -- A packet from the host on the bus.
 use Rattle.std.proofs.Common.{◌≡◌, ℕ, suc, ◌+◌, ◌≤◌, List, [], ◌∷◌, ◌++◌, length, Bool, true, false, refl, ap, sym, ◌∙◌, arith, subst}
 use Rattle.std.specs.Prelude.{◌||◌, ◌&&◌, not, ◌==◌, if◌then◌else◌, nat_le, IsTrue}
-use Rattle.std.specs.List.{list_any}
 use Rattle.std.proofs.lemmas.Bool.Decides.{nat_tests}
 use Rattle.usb_packet.specs.declared.bus.Toggle.{Toggle}
 use Rattle.usb_packet.specs.declared.bus.Toggle.TheVariants.{D0, D1}
@@ -11,7 +10,10 @@ use Rattle.device_machine.specs.declared.control.Stage.TheVariants.{Came}
 use Rattle.device_machine.specs.declared.control.Side.{Side}
 use Rattle.device_machine.specs.declared.control.Side.TheVariants.{Off, Wait, Loaded, Last, Armed, Stall, Finished}
 use Rattle.device_machine.specs.Bus as bus
-use Rattle.device_machine.specs.Bus.{Bus, takes, is_out_for}
+use Rattle.usb_descriptor.specs.Set.{is_core}
+use Rattle.device_pipe.specs.OutPipe as out_pipe
+use Rattle.device_machine.specs.Pipes.{Pipes, OutSlot, out_slot, out_hears, out_slot_answer}
+use Rattle.device_machine.specs.Bus.{Bus, takes}
 use Rattle.dwc2_regs.specs.declared.access.TheConstants.{FS4}
 use Rattle.dwc2_fifo.specs.Words.{word_count}
 use Rattle.dwc2_fifo.specs.Rx.{Rx, room_of}
@@ -23,10 +25,11 @@ use Rattle.device_table.specs.Bus as table
 use Rattle.device_table.specs.Bus.{OutOutcome, unheard, naks, stalls, drops, lands, out_entries, is_repeated_of, has_room, hears_out, out_outcome}
 use Rattle.device_relation.specs.declared.software.Ready.{Ready}
 use Rattle.device_relation.specs.Software.{Software}
-use Rattle.device_relation.specs.Relation.{Stands, PipePart, Pair, off_off, wait_wait, loaded_loaded, loaded_sent, last_last, last_armed, armed_armed, last_came, armed_came}
+use Rattle.device_relation.specs.Relation.{Stands, OutEndPart, out_kept, out_slot_of, abstract_pipes, Pair, off_off, wait_wait, loaded_loaded, loaded_sent, last_last, last_armed, armed_armed, last_came, armed_came}
 use Rattle.device_relation.specs.Relation.{stall_stall, loaded_off, last_off, armed_off, stall_off, IsPacket, is_armed, is_stalled, is_idle, was_heard, was_packet, some_lie}
 use Rattle.device_relation.specs.Relation.{came_entries, setups_entries, landed_of, out_at, is_used}
 use Rattle.device_relation.proofs.Entries.{setup_in-is}
+use Rattle.device_relation.proofs.Pipes.{out_slot_is}
 use Rattle.device_relation.proofs.SetupEvents.{hears_is, never, not_zero}
 
 -- the outcome, by what the parts fix
@@ -224,7 +227,7 @@ land_stands t s m bytes st h awake lie ar =
       };
       pipes = st.pipes;
       rest = st.rest;
-      core = record { awake = st.core.awake; reset = st.core.reset; address = st.core.address; endpoints = st.core.endpoints; landed = sym (ap (λ a. landed_of a true) awake); asleep = st.core.asleep; next = st.core.next };
+      core = record { awake = st.core.awake; reset = st.core.reset; address = st.core.address; landed = sym (ap (λ a. landed_of a true) awake); asleep = st.core.asleep; next = st.core.next };
     }
 
 -- Who is heard on endpoint 0.
@@ -233,11 +236,10 @@ pub not_not : (b : Bool) → not (not b) ≡ b
 not_not true = refl
 not_not false = refl
 
-three_tests : (awake a ok : Bool) → ((awake && a) && (ok && true)) ≡ (awake && (a && ok))
+three_tests : (awake a ok : Bool) → ((awake && a) && ok) ≡ (awake && (a && ok))
 three_tests false a ok = refl
 three_tests true false ok = refl
-three_tests true true false = refl
-three_tests true true true = refl
+three_tests true true ok = refl
 
 all_tests : (awake a ok fits : Bool) → fits ≡ true → ((awake && a) && ok && true && fits) ≡ (awake && (a && ok))
 all_tests false a ok fits h = refl
@@ -304,13 +306,13 @@ both_true false b e = e
 serves_is : (us : List (List ℕ)) → bus.is_empty us ≡ not (some_lie us)
 serves_is us = sym (not_not (bus.is_empty us))
 
-pub out0_answer : (t : Table) (s : Software) (m : Bus) (addr : ℕ) (toggle : Toggle) (bytes : List ℕ) (ok : Bool) → Stands FS4 t s m → IsPacket bytes
-    → table.bus_answer t (event.Out addr 0 toggle bytes ok) ≡ bus.bus_answer m (event.Out addr 0 toggle bytes ok)
-out0_answer t s m addr toggle bytes ok st h =
+pub out0_answer : (t : Table) (s : Software) (m : Bus) (p : Pipes) (addr : ℕ) (toggle : Toggle) (bytes : List ℕ) (ok : Bool) → Stands FS4 t s m → IsPacket bytes
+    → table.bus_answer t (event.Out addr 0 toggle bytes ok) ≡ bus.bus_answer m p (event.Out addr 0 toggle bytes ok)
+out0_answer t s m p addr toggle bytes ok st h =
     ap table.out_answer (outcome_is t s m addr toggle bytes ok st h)
     ∙ answers_agree (m.awake && ((addr == m.address) && ok)) (some_lie m.unserved) m.taken m.side toggle
     ∙ ap (λ x. if x then (if not (some_lie m.unserved) then bus.out_answer m.side m.taken toggle else answers.Nak) else answers.NoAnswer) (sym (three_tests m.awake (addr == m.address) ok))
-    ∙ ap (λ x. if bus.hears_out m addr 0 bytes ok then (if x then bus.out_answer m.side m.taken toggle else answers.Nak) else answers.NoAnswer) (sym (serves_is m.unserved))
+    ∙ ap (λ x. if bus.hears_packet m addr ok then (if x then bus.out_answer m.side m.taken toggle else answers.Nak) else answers.NoAnswer) (sym (serves_is m.unserved))
 
 out0_next : (m : Bus) (addr : ℕ) (toggle : Toggle) (bytes : List ℕ) (ok : Bool)
     → after_by (outcome_of (m.awake && ((addr == m.address) && ok)) (some_lie m.unserved) (is_stalled m.side) m.taken (is_armed m.side) toggle) (record m { side = Finished (Came bytes); taken = true }) m
@@ -319,7 +321,7 @@ out0_next m addr toggle bytes ok =
     let after = bus.after_out m toggle bytes in
     nexts_agree (m.awake && ((addr == m.address) && ok)) (some_lie m.unserved) m.taken m.side toggle (record m { side = Finished (Came bytes); taken = true }) m
     ∙ ap (λ x. if x && not (some_lie m.unserved) then after else m) (sym (three_tests m.awake (addr == m.address) ok))
-    ∙ ap (λ x. if bus.hears_out m addr 0 bytes ok && x then after else m) (sym (serves_is m.unserved))
+    ∙ ap (λ x. if bus.hears_packet m addr ok && x then after else m) (sym (serves_is m.unserved))
 
 pub out0_stands : (t : Table) (s : Software) (m : Bus) (addr : ℕ) (toggle : Toggle) (bytes : List ℕ) (ok : Bool) → Stands FS4 t s m → IsPacket bytes
     → Stands FS4 (table.after_bus t (event.Out addr 0 toggle bytes ok)) s (bus.bus_after m (event.Out addr 0 toggle bytes ok))
@@ -345,25 +347,24 @@ pipe_naks false enabled nak same room k = refl
 pipe_naks true false nak same room k = refl
 pipe_naks true true nak same room k = rw (k refl) refl
 
-four : (h ok used fits takes : Bool) → (used && fits) ≡ takes → (h && ok && used && fits) ≡ (h && (ok && (false || takes)))
+four : (h ok used fits takes : Bool) → (used && fits) ≡ takes → (h && ok && used && fits) ≡ ((h && ok) && takes)
 four false ok used fits takes e = refl
 four true false used fits takes e = refl
 four true true used fits takes e = e
 
 pipe_out_is : (t : Table) (s : Software) (m : Bus) (addr n : ℕ) (toggle : Toggle) (bytes : List ℕ) (ok : Bool) → Stands FS4 t s m
-    → out_outcome t addr (suc n) toggle bytes ok ≡ naks_or_unheard (bus.hears_out m addr (suc n) bytes ok)
+    → out_outcome t addr (suc n) toggle bytes ok ≡ naks_or_unheard (bus.hears_packet m addr ok && out_hears (out_slot_of (out_kept s.outs n)) (length bytes))
 pipe_out_is t s m addr n toggle bytes ok st =
-    let p : PipePart t.ins t.outs m.endpoints n = st.pipes n in
+    let p : OutEndPart (suc n) (out_at t.outs n) (out_kept s.outs n) = st.pipes.each_out n in
     let end = out_at t.outs n in
     let c = end.control in
     let fits = nat_le (length bytes) (packet_size (suc n) c) in
     let same = same_toggle end.toggle toggle in
     let room = has_room t bytes in
-    let heard : hears_out t addr (suc n) bytes ok ≡ bus.hears_out m addr (suc n) bytes ok =
-    ap (λ x. x && ok && is_used c && fits) (hears_is t s m addr st.core) ∙ four (bus.hears m addr) ok (is_used c) fits _ (p.takes (length bytes))
-    ∙ ap (λ x. bus.hears m addr && (ok && (x || list_any (is_out_for (suc n) (length bytes)) m.endpoints))) (sym (not_zero n)) in
-    ap (λ x. outcome_by (hears_out t addr (suc n) bytes ok) false x false c.enabled c.nak same room) p.out_stall
-    ∙ pipe_naks (hears_out t addr (suc n) bytes ok) c.enabled c.nak same room (λ h. p.out_naks (used_of (table.hears t addr) ok (is_used c) fits h))
+    let heard : hears_out t addr (suc n) bytes ok ≡ (bus.hears_packet m addr ok && out_hears (out_slot_of (out_kept s.outs n)) (length bytes)) =
+    ap (λ x. x && ok && is_used c && fits) (hears_is t s m addr st.core) ∙ four (bus.hears m addr) ok (is_used c) fits _ (p.hears (length bytes)) in
+    ap (λ x. outcome_by (hears_out t addr (suc n) bytes ok) false x false c.enabled c.nak same room) p.stall
+    ∙ pipe_naks (hears_out t addr (suc n) bytes ok) c.enabled c.nak same room (λ h. p.naks (used_of (table.hears t addr) ok (is_used c) fits h))
     ∙ ap naks_or_unheard heard
   where
     used_of : (a b c d : Bool) → (a && b && c && d) ≡ true → c ≡ true
@@ -386,11 +387,24 @@ stays : (h : Bool) (x m : Bus) → m ≡ (if h && false then x else m)
 stays true x m = refl
 stays false x m = refl
 
+spread : (heard hears : Bool) → (if heard && hears then answers.Nak else answers.NoAnswer) ≡ (if heard then (if hears then answers.Nak else answers.NoAnswer) else answers.NoAnswer)
+spread true hears = refl
+spread false hears = refl
+
+-- an endpoint of the core answers NAK
+core_naks : (slot : OutSlot) (bytes : ℕ) → is_core slot.endpoint.owner ≡ true → (if out_hears slot bytes then answers.Nak else answers.NoAnswer) ≡ out_slot_answer slot bytes
+core_naks slot bytes e = ap (λ x. if out_hears slot bytes then (if x then answers.Nak else out_pipe.out_answer slot.pipe) else answers.NoAnswer) (sym e)
+
 pub pipe_out_answer : (t : Table) (s : Software) (m : Bus) (addr n : ℕ) (toggle : Toggle) (bytes : List ℕ) (ok : Bool) → Stands FS4 t s m
-    → table.bus_answer t (event.Out addr (suc n) toggle bytes ok) ≡ bus.bus_answer m (event.Out addr (suc n) toggle bytes ok)
+    → table.bus_answer t (event.Out addr (suc n) toggle bytes ok) ≡ bus.bus_answer m (abstract_pipes (record { table = t; software = s })) (event.Out addr (suc n) toggle bytes ok)
 pipe_out_answer t s m addr n toggle bytes ok st =
+    let slot = out_slot_of (out_kept s.outs n) in
+    let p = abstract_pipes (record { table = t; software = s }) in
     ap table.out_answer (pipe_out_is t s m addr n toggle bytes ok st) ∙ naks_answer _
-    ∙ ap (λ x. if bus.hears_out m addr (suc n) bytes ok then (if x && bus.is_empty m.unserved then bus.out_answer m.side m.taken toggle else answers.Nak) else answers.NoAnswer) (sym (not_zero n))
+    ∙ spread (bus.hears_packet m addr ok) (out_hears slot (length bytes))
+    ∙ ap (λ x. if bus.hears_packet m addr ok then x else answers.NoAnswer) (core_naks slot (length bytes) (st.pipes.each_out n).core)
+    ∙ ap (λ x. if bus.hears_packet m addr ok then out_slot_answer x (length bytes) else answers.NoAnswer) (sym (out_slot_is (record { table = t; software = s }) n st.pipes.outs_count))
+    ∙ ap (λ x. if bus.hears_packet m addr ok then (if x then bus.control_out_answer m toggle else out_slot_answer (out_slot p (suc n)) (length bytes)) else answers.NoAnswer) (sym (not_zero n))
 
 pub pipe_out_stands : (t : Table) (s : Software) (m : Bus) (addr n : ℕ) (toggle : Toggle) (bytes : List ℕ) (ok : Bool) → Stands FS4 t s m
     → Stands FS4 (table.after_bus t (event.Out addr (suc n) toggle bytes ok)) s (bus.bus_after m (event.Out addr (suc n) toggle bytes ok))
@@ -398,7 +412,7 @@ pipe_out_stands t s m addr n toggle bytes ok st =
     let same : t ≡ table.after_bus t (event.Out addr (suc n) toggle bytes ok) =
     sym (ap (table.after_out t (suc n) toggle bytes) (pipe_out_is t s m addr n toggle bytes ok st) ∙ naks_after t (suc n) toggle bytes _) in
     let next : m ≡ bus.bus_after m (event.Out addr (suc n) toggle bytes ok) =
-    stays (bus.hears_out m addr (suc n) bytes ok) (bus.after_out m toggle bytes) m
-    ∙ ap (λ x. if bus.hears_out m addr (suc n) bytes ok && (x && bus.is_empty m.unserved) then bus.after_out m toggle bytes else m) (sym (not_zero n)) in
+    stays (bus.hears_packet m addr ok) (bus.after_out m toggle bytes) m
+    ∙ ap (λ x. if bus.hears_packet m addr ok && (x && bus.is_empty m.unserved) then bus.after_out m toggle bytes else m) (sym (not_zero n)) in
     subst (λ x. Stands FS4 (table.after_bus t (event.Out addr (suc n) toggle bytes ok)) s x) next
     (subst (λ x. Stands FS4 x s m) same st)

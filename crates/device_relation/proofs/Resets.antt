@@ -1,7 +1,6 @@
 -- A handler run that serves a reset.
 use Rattle.std.proofs.Common.{◌≡◌, ℕ, zero, suc, ◌-◌, ◌*◌, ◌≤◌, List, [], ◌∷◌, ◌++◌, length, Bool, true, false, refl, ap, sym, ◌∙◌, arith, subst}
 use Rattle.std.specs.Prelude.{◌||◌, ◌&&◌, ◌==◌, if◌then◌else◌}
-use Rattle.std.proofs.lemmas.Bool.Decides.{nat_tests}
 use Rattle.usb_packet.specs.declared.bus.Toggle.TheVariants.{D1}
 use Rattle.device_machine.specs.declared.control.Stage.TheVariants.{Sent, Came}
 use Rattle.device_machine.specs.declared.control.Side.{Side}
@@ -16,8 +15,9 @@ use Rattle.device_table.specs.State.{Table, Kept, InEnd, OutEnd, rx_depth, with_
 use Rattle.device_table.specs.Words.{status_word, kind_of, number_of}
 use Rattle.device_table.specs.Write.{after_write}
 use Rattle.device_table.specs.Bus.{out_entries}
-use Rattle.device_relation.specs.Software.{Software, Joint, unused}
-use Rattle.device_relation.specs.Relation.{Stands, PipePart, off_off, IsPacket, bytes_of_side, came_entries, setups_entries, landed_of}
+use Rattle.device_relation.specs.Software.{Software, Joint, no_outs, no_ins, unused}
+use Rattle.device_relation.proofs.Pipes.{unopened_is}
+use Rattle.device_relation.specs.Relation.{Stands, OutEndPart, InEndPart, out_at, in_at, out_kept, in_kept, off_off, IsPacket, bytes_of_side, came_entries, setups_entries, landed_of}
 use Rattle.device_relation.specs.Port.{Port, StandsFor, port_reset}
 use Rattle.device_relation.specs.Run.{popped_all, pipes_closed, all_cleared, reset_served, flush_all, reset_bits}
 use Rattle.device_relation.proofs.SetupEvents.{never, no_packet}
@@ -125,13 +125,21 @@ with_ends t a b c d e f = record t { ins = a ∷ b ∷ c ∷ []; outs = d ∷ e 
 pub whole : (t : Table) (ins : Three t.ins) (outs : Three t.outs) → t ≡ with_ends t ins.a ins.b ins.c outs.a outs.b outs.c
 whole t ins outs = ap (λ xs. record t { ins = xs }) ins.is ∙ ap (λ xs. record t { ins = ins.a ∷ ins.b ∷ ins.c ∷ []; outs = xs }) outs.is
 
-closed_pipes : (t : Table) (a b c : InEnd) (d e f : OutEnd) (u : ℕ) (x s : Bool) (n : ℕ)
-    → let new = done (emptied_as (closed (with_ends t a b c d e f)) u x s) in PipePart new.ins new.outs [] n
+closed_outs : (t : Table) (a b c : InEnd) (d e f : OutEnd) (u : ℕ) (x s : Bool) (n : ℕ)
+    → let new = done (emptied_as (closed (with_ends t a b c d e f)) u x s) in OutEndPart (suc n) (out_at new.outs n) (out_kept no_outs n)
 unfolding closed done emptied_as pipes_closed all_cleared
-closed_pipes t a b c d e f u x s zero = record { takes = λ n. refl; out_naks = never _ refl; out_stall = refl; sends = refl; in_naks = never _ refl; in_stall = refl }
-closed_pipes t a b c d e f u x s (suc zero) = record { takes = λ n. refl; out_naks = never _ refl; out_stall = refl; sends = refl; in_naks = never _ refl; in_stall = refl }
-closed_pipes t a b c d e f u x s (suc (suc zero)) = record { takes = λ n. refl; out_naks = never _ refl; out_stall = refl; sends = refl; in_naks = never _ refl; in_stall = refl }
-closed_pipes t a b c d e f u x s (suc (suc (suc n))) = record { takes = λ n. refl; out_naks = never _ refl; out_stall = refl; sends = refl; in_naks = never _ refl; in_stall = refl }
+closed_outs t a b c d e f u x s zero = record { hears = λ n. refl; naks = never _ refl; stall = refl; core = refl }
+closed_outs t a b c d e f u x s (suc zero) = record { hears = λ n. refl; naks = never _ refl; stall = refl; core = refl }
+closed_outs t a b c d e f u x s (suc (suc zero)) = record { hears = λ n. refl; naks = never _ refl; stall = refl; core = refl }
+closed_outs t a b c d e f u x s (suc (suc (suc n))) = record { hears = λ n. refl; naks = never _ refl; stall = refl; core = refl }
+
+closed_ins : (t : Table) (a b c : InEnd) (d e f : OutEnd) (u : ℕ) (x s : Bool) (n : ℕ)
+    → let new = done (emptied_as (closed (with_ends t a b c d e f)) u x s) in InEndPart (in_at new.ins n) (in_kept no_ins n)
+unfolding closed done emptied_as pipes_closed all_cleared
+closed_ins t a b c d e f u x s zero = record { hears = refl; naks = never _ refl; stall = refl; core = refl }
+closed_ins t a b c d e f u x s (suc zero) = record { hears = refl; naks = never _ refl; stall = refl; core = refl }
+closed_ins t a b c d e f u x s (suc (suc zero)) = record { hears = refl; naks = never _ refl; stall = refl; core = refl }
+closed_ins t a b c d e f u x s (suc (suc (suc n))) = record { hears = refl; naks = never _ refl; stall = refl; core = refl }
 
 wakes : (awake reset : Bool) → reset ≡ true → (awake || (reset && true)) ≡ true
 wakes awake true e = or_true awake
@@ -152,13 +160,12 @@ reset_stands t s m a b c d e f u x y st resets none =
       pair = off_off;
       side = record { taken_is = refl; toggle_is = refl; first = refl; packet = no_packet; alone = refl };
       rx = record { lie = refl; counts = none; few = omega arith; are = tt };
-      pipes = closed_pipes t a b c d e f u x y;
+      pipes = record { each_out = closed_outs t a b c d e f u x y; each_in = closed_ins t a b c d e f u x y; outs_count = refl; ins_count = refl };
       rest = record { masks = ap (λ (k : Kept). record k { dcfg = 0; grstctl = 0x400 }) st.rest.masks; hosts = st.rest.hosts; in_ends = refl; out_ends = refl };
       core = record {
         awake = sym (wakes t.core.awake t.core.usbrst usb);
         reset = sym (and_false t.core.usbrst);
         address = refl;
-        endpoints = refl;
         landed = st.core.landed ∙ ap (λ a. landed_of a m.taken) (first_true m.awake m.reset st.core.asleep resets);
         asleep = refl;
         next = tt;
@@ -181,6 +188,7 @@ reset_for j p f resets =
     ap (reset_served FS4) (whole t ins outs) ∙ ap (λ x. done (popped_all 8 x)) lies ∙ ap done e.is in
     record {
       stands = subst (λ x. Stands FS4 x (unused true) (unconfigured true)) (sym is) (reset_stands t j.software p.bus ins.a ins.b ins.c outs.a outs.b outs.c e.unserved e.xfrc e.stup st resets e.none);
+      pipes = unopened_is (record { table = reset_served FS4 t; software = unused true }) refl refl;
       heard = refl;
       next_address = refl;
       reset = refl;

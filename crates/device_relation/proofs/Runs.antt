@@ -28,11 +28,12 @@ run_for j p f =
 pub port_is : (j : Joint) (p : Port) → StandsFor FS4 j p → port_of j ≡ p
 port_is j p f =
     ap (λ b. record (port_of j) { bus = b }) (determined j.table j.software p.bus f.stands)
-    ∙ ap (λ v. record (port_of j) { bus = p.bus; heard = v }) (sym f.heard)
-    ∙ ap (λ v. record (port_of j) { bus = p.bus; heard = p.heard; next_address = v }) (sym f.next_address)
-    ∙ ap (λ v. record (port_of j) { bus = p.bus; heard = p.heard; next_address = p.next_address; reset = v }) (sym f.reset)
-    ∙ ap (λ v. record (port_of j) { bus = p.bus; heard = p.heard; next_address = p.next_address; reset = p.reset; finished = v }) (sym f.finished)
-    ∙ ap (λ v. record (port_of j) { bus = p.bus; heard = p.heard; next_address = p.next_address; reset = p.reset; finished = p.finished; request = v }) (sym f.request)
+    ∙ ap (λ v. record (port_of j) { bus = p.bus; pipes = v }) (sym f.pipes)
+    ∙ ap (λ v. record (port_of j) { bus = p.bus; pipes = p.pipes; heard = v }) (sym f.heard)
+    ∙ ap (λ v. record (port_of j) { bus = p.bus; pipes = p.pipes; heard = p.heard; next_address = v }) (sym f.next_address)
+    ∙ ap (λ v. record (port_of j) { bus = p.bus; pipes = p.pipes; heard = p.heard; next_address = p.next_address; reset = v }) (sym f.reset)
+    ∙ ap (λ v. record (port_of j) { bus = p.bus; pipes = p.pipes; heard = p.heard; next_address = p.next_address; reset = p.reset; finished = v }) (sym f.finished)
+    ∙ ap (λ v. record (port_of j) { bus = p.bus; pipes = p.pipes; heard = p.heard; next_address = p.next_address; reset = p.reset; finished = p.finished; request = v }) (sym f.request)
 
 -- what a call leaves, where it leaves this device
 pub record Ends (new : Joint) (p : Port) : Type 0 where
@@ -47,7 +48,7 @@ ends new j p e f =
 
 -- controller and software stand for the device that they are
 pub itself : (j : Joint) → IsSound FS4 j → StandsFor FS4 j (port_of j)
-itself j st = record { stands = st; heard = refl; next_address = refl; reset = refl; finished = refl; request = refl }
+itself j st = record { stands = st; pipes = refl; heard = refl; next_address = refl; reset = refl; finished = refl; request = refl }
 
 -- notes more or less change nothing
 pub other_notes : (t : Table) (s : Software) (m : Bus) (reset : Bool) (finished : Option Stage) (request : Option (List ℕ)) → Stands FS4 t s m
@@ -60,5 +61,5 @@ other_notes t s m reset finished request st = record {
   rx = st.rx;
   pipes = st.pipes;
   rest = st.rest;
-  core = record { awake = st.core.awake; reset = st.core.reset; address = st.core.address; endpoints = st.core.endpoints; landed = st.core.landed; asleep = st.core.asleep; next = st.core.next };
+  core = record { awake = st.core.awake; reset = st.core.reset; address = st.core.address; landed = st.core.landed; asleep = st.core.asleep; next = st.core.next };
 }

@@ -13,7 +13,9 @@ use Rattle.device_relation.specs.declared.software.Ready.TheVariants as ready
 use Rattle.device_relation.specs.Software.{Software, Joint}
 use Rattle.device_relation.specs.Relation.{Stands, Pair, off_off, wait_wait, loaded_loaded, last_last, last_armed, armed_armed, last_came, armed_came, stall_stall, loaded_off}
 use Rattle.device_relation.specs.Relation.{last_off, armed_off, stall_off, came_entries, setups_entries, was_heard, IsAddress}
-use Rattle.device_relation.specs.Port.{Port, StandsFor, with_request, with_stage, with_address, with_stages}
+use Rattle.device_machine.specs.Pipes.{pipes_after_irq}
+use Rattle.device_relation.proofs.Pipes.{irq_idle}
+use Rattle.device_relation.specs.Port.{with_pipes_served, Port, StandsFor, with_request, with_stage, with_address, with_stages}
 use Rattle.device_relation.specs.Run.{entries_taken, waiting_loaded, rest_served, sent_served, sent_noted, last_served, served_by, cleared_ack}
 use Rattle.device_relation.proofs.SetupEvents.{never}
 use Rattle.device_relation.proofs.Stages.{finished_is, acknowledged_is, sent_for, address_for, last_for}
@@ -35,6 +37,7 @@ setup_for : (j : Joint) (p : Port) (bytes : List ℕ) (us : List (List ℕ)) →
 unfolding setup_port
 setup_for j p bytes us f = record {
   stands = setup_off j.table j.software p.bus bytes us f.stands;
+  pipes = f.pipes;
   heard = refl;
   next_address = refl;
   reset = f.reset;
@@ -102,6 +105,7 @@ came_for : (j : Joint) (p : Port) (bytes : List ℕ) → StandsFor FS4 j (record
     → StandsFor FS4 (record { table = came_table (rx_as j.table [] (setups_entries p.bus.unserved)); software = came_software j.software bytes }) (with_stage p (Came bytes))
 came_for j p bytes f = record {
   stands = came_off j.table j.software p.bus bytes f.stands;
+  pipes = f.pipes;
   heard = f.heard ∙ or_nothing (was_heard j.software.heard) f.stands.side.first;
   next_address = f.next_address;
   reset = f.reset;
@@ -121,8 +125,21 @@ is_sent (Last p) = false
 is_sent Armed = false
 is_sent Stall = false
 
-plain_for : (j : Joint) (p : Port) → came_entries p.bus.side ≡ [] → StandsFor FS4 j p → StandsFor FS4 (rest_served j) (with_request p (last_of p.bus.unserved))
-plain_for j p none f = requests_for p.bus.unserved 8 j p (eight (length p.bus.unserved) f.stands.rx.few) none f
+-- the pipes follow, and as they are at rest, nothing moves
+piped : (j : Joint) (p : Port) → StandsFor FS4 j p → StandsFor FS4 j (with_pipes_served p)
+piped j p f = record {
+  stands = f.stands;
+  pipes = ap pipes_after_irq f.pipes ∙ irq_idle j;
+  heard = f.heard;
+  next_address = f.next_address;
+  reset = f.reset;
+  finished = f.finished;
+  request = f.request;
+}
+
+plain_for : (j : Joint) (p : Port) → came_entries p.bus.side ≡ [] → StandsFor FS4 j p → StandsFor FS4 (rest_served j) (with_pipes_served (with_request p (last_of p.bus.unserved)))
+plain_for j p none f =
+    piped (rest_served j) (with_request p (last_of p.bus.unserved)) (requests_for p.bus.unserved 8 j p (eight (length p.bus.unserved) f.stands.rx.few) none f)
 
 rest_for : (side : Side) (j : Joint) (p : Port) → is_sent side ≡ false → StandsFor FS4 j (record p { bus = record p.bus { side = side } })
     → StandsFor FS4 (rest_served j) (with_stages (record p { bus = record p.bus { side = side } }) (finished_stage side))
@@ -136,7 +153,7 @@ rest_for (Finished (Came bytes)) j p e f =
     let step : entries_taken 8 j ≡ entries_taken 6 j1 =
     ap (λ t. entries_taken 8 (record { table = t; software = j.software })) lies ∙ came_popped 6 j.table j.software bytes (setups_entries us) f.stands.side.packet in
     subst (λ x. StandsFor FS4 (waiting_loaded x) (with_stages (record p { bus = record p.bus { side = Finished (Came bytes) } }) (Some (Came bytes)))) (sym step)
-    (requests_for us 6 j1 (with_stage p (Came bytes)) (six (length us) f.stands.rx.few) refl (came_for j p bytes f))
+    (piped (waiting_loaded (entries_taken 6 j1)) (with_request (with_stage p (Came bytes)) (last_of us)) (requests_for us 6 j1 (with_stage p (Came bytes)) (six (length us) f.stands.rx.few) refl (came_for j p bytes f)))
 rest_for Off j p e f = plain_for j (record p { bus = record p.bus { side = Off } }) refl f
 rest_for (Wait q l) j p e f = plain_for j (record p { bus = record p.bus { side = Wait q l } }) refl f
 rest_for (Loaded q) j p e f = plain_for j (record p { bus = record p.bus { side = Loaded q } }) refl f

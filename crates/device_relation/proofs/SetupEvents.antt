@@ -46,7 +46,7 @@ reset_stands t s m st = record {
   rx = st.rx;
   pipes = st.pipes;
   rest = st.rest;
-  core = record { awake = refl; reset = refl; address = st.core.address; endpoints = st.core.endpoints; landed = refl; asleep = refl; next = st.core.next };
+  core = record { awake = refl; reset = refl; address = st.core.address; landed = refl; asleep = refl; next = st.core.next };
 }
 
 -- A SETUP: the words that lie in the receive FIFO.
@@ -205,5 +205,5 @@ setup_stands t s m b st h few =
       };
       pipes = st.pipes;
       rest = st.rest;
-      core = record { awake = st.core.awake; reset = st.core.reset; address = st.core.address; endpoints = st.core.endpoints; landed = sym (landed_nothing m.awake); asleep = st.core.asleep; next = st.core.next };
+      core = record { awake = st.core.awake; reset = st.core.reset; address = st.core.address; landed = sym (landed_nothing m.awake); asleep = st.core.asleep; next = st.core.next };
     }

@@ -94,7 +94,7 @@ sent_off t s m n is st = record {
   rx = record { lie = st.rx.lie; counts = st.rx.counts; few = st.rx.few; are = st.rx.are };
   pipes = st.pipes;
   rest = st.rest;
-  core = record { awake = st.core.awake; reset = st.core.reset; address = st.core.address; endpoints = st.core.endpoints; landed = st.core.landed; asleep = st.core.asleep; next = is };
+  core = record { awake = st.core.awake; reset = st.core.reset; address = st.core.address; landed = st.core.landed; asleep = st.core.asleep; next = is };
 }
 
 at_finished : (t : Table) (s : Software) (m : Bus) → Stands FS4 t s m → s.side ≡ ready.Loaded → t.in0.xfrc ≡ true → Stands FS4 t s (record m { side = Finished Sent })
@@ -103,6 +103,7 @@ at_finished t s m st e x = subst (λ side. Stands FS4 t s (record m { side = sid
 pub sent_for : (j : Joint) (p : Port) → StandsFor FS4 j p → j.software.side ≡ ready.Loaded → j.table.in0.xfrc ≡ true → StandsFor FS4 (sent_noted j) (with_stage p Sent)
 sent_for j p f e x = record {
   stands = sent_off j.table j.software p.bus j.software.next_address f.stands.core.next (at_finished j.table j.software p.bus f.stands e x);
+  pipes = f.pipes;
   heard = f.heard;
   next_address = f.next_address;
   reset = f.reset;
@@ -124,7 +125,7 @@ addressed_on t s m n h st = record {
   rx = st.rx;
   pipes = st.pipes;
   rest = record { masks = ap (λ (k : Kept). record k { dcfg = address_word n }) st.rest.masks; hosts = st.rest.hosts; in_ends = st.rest.in_ends; out_ends = st.rest.out_ends };
-  core = record { awake = st.core.awake; reset = st.core.reset; address = sym (address_is n h); endpoints = st.core.endpoints; landed = st.core.landed; asleep = st.core.asleep; next = st.core.next };
+  core = record { awake = st.core.awake; reset = st.core.reset; address = sym (address_is n h); landed = st.core.landed; asleep = st.core.asleep; next = st.core.next };
 }
 
 pub address_for : (j : Joint) (p : Port) (n : ℕ) → n < 128 → StandsFor FS4 j p → j.software.side ≡ ready.Loaded → j.table.in0.xfrc ≡ true
@@ -132,6 +133,7 @@ pub address_for : (j : Joint) (p : Port) (n : ℕ) → n < 128 → StandsFor FS4
 address_for j p n h f e x = record {
   stands = addressed_on (cleared_ack j.table) (record j.software { side = ready.Off; finished = Some Sent; next_address = None }) (record p.bus { side = Off }) n h
       (sent_off j.table j.software p.bus None tt (at_finished j.table j.software p.bus f.stands e x));
+  pipes = f.pipes;
   heard = f.heard;
   next_address = refl;
   reset = f.reset;
@@ -159,8 +161,9 @@ last_for j p f e x =
         rx = st.rx;
         pipes = st.pipes;
         rest = st.rest;
-        core = record { awake = st.core.awake; reset = st.core.reset; address = st.core.address; endpoints = st.core.endpoints; landed = st.core.landed; asleep = st.core.asleep; next = st.core.next };
+        core = record { awake = st.core.awake; reset = st.core.reset; address = st.core.address; landed = st.core.landed; asleep = st.core.asleep; next = st.core.next };
       };
+      pipes = f.pipes;
       heard = f.heard;
       next_address = f.next_address;
       reset = f.reset;

@@ -49,7 +49,7 @@ came_off t s m bytes st =
       rx = record { lie = refl; counts = st.rx.counts; few = st.rx.few; are = st.rx.are };
       pipes = st.pipes;
       rest = st.rest;
-      core = record { awake = st.core.awake; reset = st.core.reset; address = st.core.address; endpoints = st.core.endpoints; landed = st.core.landed; asleep = st.core.asleep; next = st.core.next };
+      core = record { awake = st.core.awake; reset = st.core.reset; address = st.core.address; landed = st.core.landed; asleep = st.core.asleep; next = st.core.next };
     }
 
 -- a SETUP
@@ -99,5 +99,5 @@ setup_off t s m bytes us st =
       rx = record { lie = refl; counts = omega arith; few = omega arith; are = st.rx.are.1 };
       pipes = st.pipes;
       rest = st.rest;
-      core = record { awake = st.core.awake; reset = st.core.reset; address = st.core.address; endpoints = st.core.endpoints; landed = st.core.landed; asleep = st.core.asleep; next = tt };
+      core = record { awake = st.core.awake; reset = st.core.reset; address = st.core.address; landed = st.core.landed; asleep = st.core.asleep; next = tt };
     }

@@ -1,13 +1,16 @@
 -- Which device the controller and the driver's software are together, and what holds of them.
-use Rattle.std.specs.Prelude.{◌≡◌, ℕ, suc, ◌+◌, ◌^◌, ◌<◌, ◌≤◌, ◌==◌, ◌&&◌, ◌||◌, not, nat_le, Bool, true, false, if◌then◌else◌, IsTrue, List, [], ◌∷◌, ◌++◌, length, take, Option, Some, None, slice_index, slice_index_or}
-use Rattle.std.specs.List.{list_any}
+use Rattle.std.specs.Prelude.{◌≡◌, ℕ, suc, ◌+◌, ◌^◌, ◌<◌, ◌≤◌, ◌==◌, ◌&&◌, ◌||◌, not, nat_le, Bool, true, false, if◌then◌else◌, IsTrue, List, [], ◌∷◌, ◌++◌, length, take, Option, Some, None, slice_index, slice_index_or, map}
 use Rattle.usb_packet.specs.declared.bus.Toggle.{Toggle}
 use Rattle.usb_packet.specs.declared.bus.Toggle.TheVariants.{D0, D1}
-use Rattle.usb_descriptor.specs.declared.endpoint.Endpoint.{Endpoint}
+use Rattle.usb_descriptor.specs.Set.{is_core}
+use Rattle.device_pipe.specs.OutPipe as out
+use Rattle.device_pipe.specs.InPipe as pipe
 use Rattle.device_machine.specs.declared.control.Stage.TheVariants.{Sent, Came}
 use Rattle.device_machine.specs.declared.control.Side.{Side}
 use Rattle.device_machine.specs.declared.control.Side.TheVariants.{Off, Wait, Loaded, Last, Armed, Stall, Finished}
-use Rattle.device_machine.specs.Bus.{Bus, is_empty, is_out_for, is_in_for}
+use Rattle.device_machine.specs.Packets.{numbers_from}
+use Rattle.device_machine.specs.Pipes.{Pipes, OutSlot, InSlot, top_number, no_out_slot, no_in_slot, out_hears, in_hears}
+use Rattle.device_machine.specs.Bus.{Bus, is_empty}
 use Rattle.dwc2_regs.specs.declared.TheConstants.{DCFG_ADDRESS, DIEPCTL_USBAEP, GRXSTSP_BYTES}
 use Rattle.dwc2_regs.specs.Field.{field_of}
 use Rattle.dwc2_fifo.specs.Words.{bytes_in}
@@ -21,6 +24,10 @@ use Rattle.device_relation.specs.declared.software.Ready.{Ready}
 use Rattle.device_relation.specs.declared.software.Ready.TheVariants as ready
 use Rattle.device_relation.specs.declared.software.Heard.{Heard}
 use Rattle.device_relation.specs.declared.software.Heard.TheVariants as heard
+use Rattle.device_relation.specs.declared.software.OutEndpoint.{OutEndpoint}
+use Rattle.device_relation.specs.declared.software.OutEndpoint.TheVariants as outward
+use Rattle.device_relation.specs.declared.software.InEndpoint.{InEndpoint}
+use Rattle.device_relation.specs.declared.software.InEndpoint.TheVariants as inward
 use Rattle.device_relation.specs.Software.{Software, Joint}
 
 -- The entries of the receive FIFO.
@@ -135,12 +142,38 @@ abstract j =
       awake = t.core.awake;
       reset = t.core.usbrst;
       address = field_of t.kept.dcfg DCFG_ADDRESS;
-      endpoints = s.open_ones;
       unserved = setups;
       side = side_of t s;
       taken = is_taken (some_lie setups) s.heard (side_of t s);
       toggle = toggle_of (is_seen (some_lie setups) s.heard) t.in0.toggle;
     }
+
+-- The endpoints other than 0, by number less 1: what the driver keeps of each.
+
+abbrev pub out_kept : List OutEndpoint → ℕ → OutEndpoint
+out_kept kept n = slice_index_or kept n outward.Closed
+
+abbrev pub in_kept : List InEndpoint → ℕ → InEndpoint
+in_kept kept n = slice_index_or kept n inward.Closed
+
+-- and what each is: one that is open is at rest, since the core never arms or starts it
+abbrev pub out_slot_of : OutEndpoint → OutSlot
+out_slot_of outward.Closed = no_out_slot
+out_slot_of (outward.Open e halted) = record { endpoint = e; pipe = record { phase = out.Rest; halted = halted; toggle = D0; held = [] } }
+
+abbrev pub in_slot_of : InEndpoint → InSlot
+in_slot_of inward.Closed = no_in_slot
+in_slot_of (inward.Open e halted) = record { endpoint = e; pipe = record { queue = []; phase = pipe.Rest; loaded = 0; toggle = D0; halted = halted } }
+
+abbrev pub out_slot_at : Joint → ℕ → OutSlot
+out_slot_at j n = out_slot_of (out_kept j.software.outs n)
+
+abbrev pub in_slot_at : Joint → ℕ → InSlot
+in_slot_at j n = in_slot_of (in_kept j.software.ins n)
+
+-- the pipes of the device
+abbrev pub abstract_pipes : Joint → Pipes
+abstract_pipes j = record { outs = map (out_slot_at j) (numbers_from 0 top_number); ins = map (in_slot_at j) (numbers_from 0 top_number) }
 
 -- What holds of controller and software, part by part, each over the registers and the part of the device that it ties.
 
@@ -292,17 +325,28 @@ pub record FifoPart (profile : Profile) (rx : Rx) (counted : ℕ) (side : Side) 
   pub few : length setups ≤ 3
   pub are : AreSetups setups
 
--- an endpoint other than 0, by its number less 1: it hears what an open endpoint hears, and answers NAK
+-- an endpoint other than 0, by its number: it hears what the pipe hears, and answers NAK, halted or not
 abbrev pub is_used : Control → Bool
 is_used control = flag control.kept DIEPCTL_USBAEP
 
-pub record PipePart (ins : List InEnd) (outs : List OutEnd) (endpoints : List Endpoint) (n : ℕ) : Type 0 where
-  pub takes : (bytes : ℕ) → (is_used (out_at outs n).control && nat_le bytes (packet_size (suc n) (out_at outs n).control)) ≡ list_any (is_out_for (suc n) bytes) endpoints
-  pub out_naks : IsTrue (is_used (out_at outs n).control) → (out_at outs n).control.nak ≡ true
-  pub out_stall : (out_at outs n).control.stall ≡ false
-  pub sends : is_used (in_at ins n).control ≡ list_any (is_in_for (suc n)) endpoints
-  pub in_naks : IsTrue (is_used (in_at ins n).control) → (in_at ins n).control.nak ≡ true
-  pub in_stall : (in_at ins n).control.stall ≡ false
+pub record OutEndPart (number : ℕ) (end : OutEnd) (kept : OutEndpoint) : Type 0 where
+  pub hears : (bytes : ℕ) → (is_used end.control && nat_le bytes (packet_size number end.control)) ≡ out_hears (out_slot_of kept) bytes
+  pub naks : IsTrue (is_used end.control) → end.control.nak ≡ true
+  pub stall : end.control.stall ≡ false
+  pub core : is_core (out_slot_of kept).endpoint.owner ≡ true
+
+pub record InEndPart (end : InEnd) (kept : InEndpoint) : Type 0 where
+  pub hears : is_used end.control ≡ in_hears (in_slot_of kept)
+  pub naks : IsTrue (is_used end.control) → end.control.nak ≡ true
+  pub stall : end.control.stall ≡ false
+  pub core : is_core (in_slot_of kept).endpoint.owner ≡ true
+
+-- all of them
+pub record PipesPart (profile : Profile) (ins : List InEnd) (outs : List OutEnd) (kept_ins : List InEndpoint) (kept_outs : List OutEndpoint) : Type 0 where
+  pub each_out : (n : ℕ) → OutEndPart (suc n) (out_at outs n) (out_kept kept_outs n)
+  pub each_in : (n : ℕ) → InEndPart (in_at ins n) (in_kept kept_ins n)
+  pub outs_count : length kept_outs ≡ profile.out_eps
+  pub ins_count : length kept_ins ≡ profile.in_eps
 
 -- the rest: masks and sizes as in the opened state, and the endpoints of the profile
 pub record RestPart (profile : Profile) (kept : Kept) (host : Host) (ins : List InEnd) (outs : List OutEnd) : Type 0 where
@@ -320,12 +364,11 @@ abbrev pub IsAddress : Option ℕ → Type 0
 IsAddress None = Unit {0}
 IsAddress (Some address) = address < 128
 
--- the bits of a reset, the address, and the endpoints that are open
+-- the bits of a reset, and the address
 pub record CorePart (t : Table) (s : Software) (m : Bus) : Type 0 where
   pub awake : m.awake ≡ t.core.awake
   pub reset : m.reset ≡ t.core.usbrst
   pub address : m.address ≡ field_of t.kept.dcfg DCFG_ADDRESS
-  pub endpoints : m.endpoints ≡ s.open_ones
   pub landed : t.core.landed ≡ landed_of m.awake m.taken
   -- the device is asleep while a reset is unserved
   pub asleep : (m.awake && m.reset) ≡ false
@@ -337,7 +380,7 @@ pub record Stands (profile : Profile) (t : Table) (s : Software) (m : Bus) : Typ
   pub pair : Pair t.in0.xfrc s.side m.side
   pub side : SidePart m.taken m.toggle m.side (some_lie m.unserved) s.heard t.in0.toggle
   pub rx : FifoPart profile t.rx t.core.unserved m.side m.unserved
-  pub pipes : (n : ℕ) → PipePart t.ins t.outs m.endpoints n
+  pub pipes : PipesPart profile t.ins t.outs s.ins s.outs
   pub rest : RestPart profile t.kept t.host t.ins t.outs
   pub core : CorePart t s m
 

@@ -1,6 +1,7 @@
 -- What a handler run and each call of the driver do to the registers and to what it keeps.
-use Rattle.std.specs.Prelude.{ℕ, zero, suc, ◌+◌, ◌*◌, ◌^◌, ◌==◌, Bool, true, false, if◌then◌else◌, List, [], ◌∷◌, ◌++◌, length, take, min, max, Option, Some, None}
+use Rattle.std.specs.Prelude.{ℕ, zero, suc, ◌+◌, ◌-◌, ◌&&◌, nat_lt, nat_le, slice_set, ◌*◌, ◌^◌, ◌==◌, Bool, true, false, if◌then◌else◌, List, [], ◌∷◌, length, take, min, max, Option, Some, None}
 use Rattle.dwc2_regs.specs.declared.access.Profile.{Profile}
+use Rattle.dwc2_regs.specs.declared.access.TheConstants.{FS4}
 use Rattle.usb_descriptor.specs.declared.endpoint.Endpoint.{Endpoint}
 use Rattle.usb_descriptor.specs.declared.endpoint.EpKind.{EpKind}
 use Rattle.usb_descriptor.specs.declared.endpoint.EpKind.TheVariants.{Bulk, Interrupt}
@@ -21,8 +22,12 @@ use Rattle.device_relation.specs.declared.software.Ready.{Ready}
 use Rattle.device_relation.specs.declared.software.Ready.TheVariants as ready
 use Rattle.device_relation.specs.declared.software.Heard.{Heard}
 use Rattle.device_relation.specs.declared.software.Heard.TheVariants as heard
-use Rattle.device_relation.specs.Software.{Joint, unused}
-use Rattle.device_relation.specs.Relation.{was_packet, one_packet}
+use Rattle.device_relation.specs.declared.software.OutEndpoint.{OutEndpoint}
+use Rattle.device_relation.specs.declared.software.OutEndpoint.TheVariants as outward
+use Rattle.device_relation.specs.declared.software.InEndpoint.{InEndpoint}
+use Rattle.device_relation.specs.declared.software.InEndpoint.TheVariants as inward
+use Rattle.device_relation.specs.Software.{Software, Joint, no_outs, no_ins, unused}
+use Rattle.device_relation.specs.Relation.{was_packet, one_packet, out_kept, in_kept}
 
 -- the word in which these bits alone are 1
 abbrev pub ones : List Field → ℕ
@@ -278,14 +283,61 @@ open_word e number = e.size + 2 ^ 15 + 2 ^ 18 * type_of e.kind + 2 ^ 22 * number
 abbrev pub run_open_out : Joint → Endpoint → Joint
 run_open_out j e = record {
   table = after_write j.table (doepctl e.addr) (open_word e 0);
-  software = record j.software { open_ones = j.software.open_ones ++ e ∷ [] };
+  software = record j.software { outs = slice_set j.software.outs (e.addr - 1) (outward.Open e false) };
 }
 
 abbrev pub run_open_in : Joint → Endpoint → ℕ → Joint
 run_open_in j e number = record {
   table = after_write j.table (diepctl number) (open_word e number);
-  software = record j.software { open_ones = j.software.open_ones ++ e ∷ [] };
+  software = record j.software { ins = slice_set j.software.ins (number - 1) (inward.Open e false) };
 }
 
 abbrev pub run_close : Profile → Joint → Joint
-run_close profile j = record { table = others_closed profile j.table; software = record j.software { open_ones = [] } }
+run_close profile j = record { table = others_closed profile j.table; software = record j.software { outs = no_outs; ins = no_ins } }
+
+-- A halt of an endpoint of the core is known to the software alone.
+
+abbrev pub out_with_halt : Bool → OutEndpoint → OutEndpoint
+out_with_halt halted outward.Closed = outward.Closed
+out_with_halt halted (outward.Open e before) = outward.Open e halted
+
+abbrev pub in_with_halt : Bool → InEndpoint → InEndpoint
+in_with_halt halted inward.Closed = inward.Closed
+in_with_halt halted (inward.Open e before) = inward.Open e halted
+
+-- whether it is halted
+abbrev pub out_is_halted : OutEndpoint → Bool
+out_is_halted outward.Closed = false
+out_is_halted (outward.Open e halted) = halted
+
+abbrev pub in_is_halted : InEndpoint → Bool
+in_is_halted inward.Closed = false
+in_is_halted (inward.Open e halted) = halted
+
+-- by number: from 1 to as many as the controller has
+abbrev pub is_number : ℕ → ℕ → Bool
+is_number most number = nat_lt 0 number && nat_le number most
+
+abbrev pub out_numbered : List OutEndpoint → ℕ → OutEndpoint
+out_numbered kept number = if is_number FS4.out_eps number then out_kept kept (number - 1) else outward.Closed
+
+abbrev pub in_numbered : List InEndpoint → ℕ → InEndpoint
+in_numbered kept number = if is_number FS4.in_eps number then in_kept kept (number - 1) else inward.Closed
+
+abbrev pub is_halted_at : Software → ℕ → Bool
+is_halted_at s address =
+    if nat_lt address 128 then out_is_halted (out_numbered s.outs address) else in_is_halted (in_numbered s.ins (address - 128))
+
+abbrev pub outs_with_halt : List OutEndpoint → ℕ → Bool → List OutEndpoint
+outs_with_halt kept number halted =
+    if is_number FS4.out_eps number then slice_set kept (number - 1) (out_with_halt halted (out_kept kept (number - 1))) else kept
+
+abbrev pub ins_with_halt : List InEndpoint → ℕ → Bool → List InEndpoint
+ins_with_halt kept number halted =
+    if is_number FS4.in_eps number then slice_set kept (number - 1) (in_with_halt halted (in_kept kept (number - 1))) else kept
+
+abbrev pub run_halt : Joint → Bool → ℕ → Joint
+run_halt j halted address =
+    if nat_lt address 128
+    then record j { software = record j.software { outs = outs_with_halt j.software.outs address halted } }
+    else record j { software = record j.software { ins = ins_with_halt j.software.ins (address - 128) halted } }

@@ -2,11 +2,17 @@
 use Rattle.std.proofs.Common.{◌≡◌, ◌≤◌, List, [], true, refl, ap, sym, ◌∙◌, subst, length, arith}
 use Rattle.std.specs.List.{AllByRecursion}
 use Rattle.register_text.specs.Access.{IsAccess}
+use Rattle.usb_packet.specs.declared.bus.BusEvent.{BusEvent}
+use Rattle.usb_packet.specs.declared.bus.BusAnswer.{BusAnswer}
 use Rattle.usb_packet.specs.declared.bus.BusAnswer.TheVariants.{Done}
+use Rattle.dwc2_regs.specs.declared.access.TheConstants.{FS4}
+use Rattle.device_table.specs.State.{Table}
+use Rattle.device_table.specs.Bus as table
+use Rattle.usbd_core.specs.Laws.{Keeps as EventKeeps}
 use Rattle.dwc2_regs.specs.declared.access.Access.{Access}
 use Rattle.device_table.specs.Bank.{Bank, begun}
 use Rattle.dwc2_access.specs.Run.{AreSteps, accesses_after}
-use Rattle.device_line.specs.declared.line.DevLine.TheVariants.{Irq, Task}
+use Rattle.device_line.specs.declared.line.DevLine.TheVariants.{Bus as Line, Irq, Task}
 use Rattle.device_line.specs.declared.line.Answer.TheVariants.{Bus as TheBus}
 use Rattle.device_machine.specs.Core.{after_irq, after_task}
 use Rattle.device_schedule.specs.Turns.{AreWork}
@@ -83,4 +89,19 @@ task_steps d e b same due set core goes order fit =
       turn = w.work;
       table = w.table;
       order = over_stays e.port.bank.log (λ start k. quiet_over start e.port.bank.log (subst (λ (x : Bank). Keeps quiet quiet x.log e.port.bank.log) same order start k));
+    }
+
+pub bus_steps : (d : Device) (mid new : Bank) (e : BusEvent) (result : BusAnswer) → EventKeeps FS4 d e → mid ≡ begun d.port.bank → result ≡ table.bus_answer mid.table e
+    → new ≡ record mid { table = table.after_bus mid.table e } → Steps (run_of d) (run_of (with_bank d new)) (Line e) (TheBus result)
+bus_steps d mid new e result k same answer after =
+    let t : new.table ≡ table.after_bus d.port.bank.table e = ap (λ (b : Bank). b.table) after ∙ ap (λ (b : Bank). table.after_bus b.table e) same in
+    let r : result ≡ table.bus_answer d.port.bank.table e = answer ∙ ap (λ (b : Bank). table.bus_answer b.table e) same in
+    let none : new.log ≡ [] = ap (λ (b : Bank). b.log) after ∙ ap (λ (b : Bank). b.log) same in
+    record {
+      set = refl;
+      answered = ap TheBus (r ∙ k.answer);
+      core = ap (λ (x : Table). core_of (with_bank d (record d.port.bank { table = x }))) t ∙ k.core;
+      turn = (none, ap TheBus r);
+      table = t;
+      order = none_stays new.log none;
     }

@@ -42,7 +42,7 @@ call_answer core (Midi call) = reply.Closed
 
 -- what the core answers to a line: a bus event as the bus sees it, a handler run and a task run with `ok`
 abbrev pub core_answer : Core → DevLine → Answer
-core_answer core (Bus e) = answer.Bus (bus_answer core.bus e)
+core_answer core (Bus e) = answer.Bus (bus_answer core.bus core.pipes e)
 core_answer core Irq = answer.Bus Done
 core_answer core Task = answer.Bus Done
 core_answer core (Call call) = answer.Reply (call_answer core call)

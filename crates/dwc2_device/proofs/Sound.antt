@@ -1,21 +1,25 @@
 -- Controller and software agree after each call.
-use Rattle.std.proofs.Common.{◌≡◌, ℕ, suc, ◌+◌, ◌-◌, ◌<◌, ◌≤◌, List, [], ◌∷◌, ◌++◌, arith, Bool, true, false, Option, Some, None, refl, ap, sym, ◌∙◌, subst}
-use Rattle.std.specs.Prelude.{IsTrue}
+use Rattle.std.proofs.Common.{◌≡◌, ℕ, suc, ◌+◌, ◌-◌, ◌<◌, ◌≤◌, List, arith, Bool, true, false, Option, Some, None, refl, ap, sym, ◌∙◌, subst}
+use Rattle.std.specs.Prelude.{IsTrue, slice_set}
 use Rattle.dwc2_regs.specs.declared.access.TheConstants.{FS4}
-use Rattle.dwc2_regs.specs.Register.{doepctl}
+use Rattle.dwc2_regs.specs.Register.{diepctl, doepctl}
+use Rattle.usb_descriptor.specs.Set.{is_core}
 use Rattle.usb_descriptor.specs.declared.endpoint.Endpoint.{Endpoint}
 use Rattle.device_machine.specs.declared.control.Stage.{Stage}
 use Rattle.device_machine.specs.Bus.{Bus, unconfigured}
 use Rattle.device_table.specs.State.{Table}
 use Rattle.device_table.specs.Write.{after_write}
+use Rattle.device_relation.specs.declared.software.OutEndpoint.TheVariants as outward
+use Rattle.device_relation.specs.declared.software.InEndpoint.TheVariants as inward
 use Rattle.device_relation.specs.Software.{Software, Joint}
 use Rattle.device_relation.specs.Relation.{IsSound, IsPacket, Stands, abstract}
-use Rattle.device_relation.specs.Port.{StandsFor, port_of, after_handler, may_start, started, armed, stalled, addressed, with_endpoint, without_endpoints, has_address}
-use Rattle.device_relation.specs.Run.{run, run_start, run_arm, run_stall, run_address, run_close, run_open_out, run_open_in, open_word}
+use Rattle.device_relation.specs.Port.{StandsFor, port_of, after_handler, may_start, started, armed, stalled, addressed, with_endpoint, without_endpoints, halted, cleared}
+use Rattle.device_relation.specs.Run.{run, run_start, run_arm, run_stall, run_address, run_close, run_halt, run_open_out, run_open_in, open_word}
 use Rattle.device_relation.specs.Laws.{at_start}
 use Rattle.device_relation.proofs.Events.{starts}
 use Rattle.device_relation.proofs.Closes.{close_for}
 use Rattle.device_relation.proofs.Opens.{open_out_for, open_in_for}
+use Rattle.device_relation.proofs.Halts.{halt_for, clear_for}
 use Rattle.device_relation.proofs.Runs.{Ends, ends, itself, other_notes, run_for}
 use Rattle.device_relation.proofs.Calls.{start_for, arm_for, stall_for, address_for}
 use Rattle.dwc2_device.specs.Notes.{rest_of, without_note, NotesKeep}
@@ -73,41 +77,55 @@ notes_keep j =
     let same = same_device j.table s s.reset s.finished in
     (same, λ st. subst (λ m. Stands FS4 j.table (without_note s) m) (sym same) (note_stands j.table s (abstract j) s.reset s.finished st))
 
--- An endpoint is opened.
+-- A halt, and its end.
 
-abbrev IsShut : ℕ → Joint → Type 0
-IsShut address j = has_address address j.software.open_ones ≡ false
+pub halt_ends : (old new : Joint) (a : ℕ) → IsSound FS4 old → new ≡ run_halt old true a → Ends new (halted (port_of old) a)
+halt_ends old new a st e = ends new (run_halt old true a) (halted (port_of old) a) e (halt_for old (port_of old) a (itself old st))
+
+pub clear_ends : (old new : Joint) (a : ℕ) → IsSound FS4 old → new ≡ run_halt old false a → Ends new (cleared (port_of old) a)
+clear_ends old new a st e = ends new (run_halt old false a) (cleared (port_of old) a) e (clear_for old (port_of old) a (itself old st))
+
+-- An endpoint is opened.
 
 opened_out : Joint → Endpoint → ℕ → Joint
 opened_out j e address = record {
   table = after_write j.table (doepctl address) (open_word e 0);
-  software = record j.software { open_ones = j.software.open_ones ++ e ∷ [] };
+  software = record j.software { outs = slice_set j.software.outs (e.addr - 1) (outward.Open e false) };
 }
 
-out_for : (old : Joint) (e : Endpoint) → IsSound FS4 old → 1 ≤ e.addr → e.addr ≤ 3 → 1 ≤ e.size → e.size ≤ 64 → IsShut e.addr old
+out_for : (old : Joint) (e : Endpoint) → IsSound FS4 old → 1 ≤ e.addr → e.addr ≤ 3 → 1 ≤ e.size → e.size ≤ 64 → is_core e.owner ≡ true
     → StandsFor FS4 (run_open_out old e) (with_endpoint (port_of old) e)
 unfolding opened_out
-out_for old e st low high some most shut =
+out_for old e st low high some most core =
     let n = e.addr - 1 in
     let is : e.addr ≡ suc n = omega arith in
     subst (λ x. StandsFor FS4 (opened_out old e x) (with_endpoint (port_of old) e)) (sym is)
-    (open_out_for old (port_of old) e n (itself old st) is (omega arith) some most (subst (λ x. IsShut x old) is shut))
+    (open_out_for old (port_of old) e n (itself old st) is (omega arith) some most core)
 
-pub open_out_ends : (old new : Joint) (e : Endpoint) → IsSound FS4 old → 1 ≤ e.addr → e.addr ≤ 3 → 1 ≤ e.size → e.size ≤ 64 → IsShut e.addr old
+pub open_out_ends : (old new : Joint) (e : Endpoint) → IsSound FS4 old → 1 ≤ e.addr → e.addr ≤ 3 → 1 ≤ e.size → e.size ≤ 64 → is_core e.owner ≡ true
     → new ≡ run_open_out old e → Ends new (with_endpoint (port_of old) e)
-open_out_ends old new e st low high some most shut k =
-    ends new (run_open_out old e) (with_endpoint (port_of old) e) k (out_for old e st low high some most shut)
+open_out_ends old new e st low high some most core k =
+    ends new (run_open_out old e) (with_endpoint (port_of old) e) k (out_for old e st low high some most core)
 
-in_for : (old : Joint) (e : Endpoint) → IsSound FS4 old → 129 ≤ e.addr → e.addr ≤ 131 → 1 ≤ e.size → e.size ≤ 64 → IsShut e.addr old
+opened_in : Joint → Endpoint → ℕ → ℕ → Joint
+opened_in j e number place = record {
+  table = after_write j.table (diepctl number) (open_word e number);
+  software = record j.software { ins = slice_set j.software.ins place (inward.Open e false) };
+}
+
+in_for : (old : Joint) (e : Endpoint) → IsSound FS4 old → 129 ≤ e.addr → e.addr ≤ 131 → 1 ≤ e.size → e.size ≤ 64 → is_core e.owner ≡ true
     → StandsFor FS4 (run_open_in old e (e.addr - 128)) (with_endpoint (port_of old) e)
-in_for old e st low high some most shut =
+unfolding opened_in
+in_for old e st low high some most core =
     let n = e.addr - 129 in
     let is : e.addr - 128 ≡ suc n = omega arith in
+    let place : (e.addr - 128) - 1 ≡ n = omega arith in
     let addr : e.addr ≡ 128 + suc n = omega arith in
-    subst (λ x. StandsFor FS4 (run_open_in old e x) (with_endpoint (port_of old) e)) (sym is)
-    (open_in_for old (port_of old) e n (itself old st) addr (omega arith) some most (subst (λ x. IsShut x old) addr shut))
+    subst (λ x. StandsFor FS4 (opened_in old e (e.addr - 128) x) (with_endpoint (port_of old) e)) (sym place)
+    (subst (λ x. StandsFor FS4 (opened_in old e x n) (with_endpoint (port_of old) e)) (sym is)
+    (open_in_for old (port_of old) e n (itself old st) addr (omega arith) some most core))
 
-pub open_in_ends : (old new : Joint) (e : Endpoint) → IsSound FS4 old → 129 ≤ e.addr → e.addr ≤ 131 → 1 ≤ e.size → e.size ≤ 64 → IsShut e.addr old
+pub open_in_ends : (old new : Joint) (e : Endpoint) → IsSound FS4 old → 129 ≤ e.addr → e.addr ≤ 131 → 1 ≤ e.size → e.size ≤ 64 → is_core e.owner ≡ true
     → new ≡ run_open_in old e (e.addr - 128) → Ends new (with_endpoint (port_of old) e)
-open_in_ends old new e st low high some most shut k =
-    ends new (run_open_in old e (e.addr - 128)) (with_endpoint (port_of old) e) k (in_for old e st low high some most shut)
+open_in_ends old new e st low high some most core k =
+    ends new (run_open_in old e (e.addr - 128)) (with_endpoint (port_of old) e) k (in_for old e st low high some most core)

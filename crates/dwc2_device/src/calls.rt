@@ -10,8 +10,8 @@ ghost use Rattle.dwc2_device.specs.Driver.{joint, Has, Spends};
 ghost use Rattle.dwc2_device.specs.Phase.{Keeps, quiet};
 
 use crate::DevPort;
+use crate::port::{NO_INS, NO_OUTS};
 use crate::words::STALL;
-use arrayvec::ArrayVec;
 use device_relation::Ready;
 use device_relation::laws::packet_fits;
 use dwc2_access::Regs;
@@ -151,7 +151,8 @@ impl<R: Regs + Drop> DevPort<R> {
         ensures spends { Spends 6 self.old.bank self.new.bank }
     {
         self.close_others();
-        self.open_ones = ArrayVec::new();
+        self.outs = NO_OUTS;
+        self.ins = NO_INS;
     }
 
     pub(crate) fn keep_address(&mut self, addr: u8)

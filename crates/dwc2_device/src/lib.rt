@@ -8,6 +8,7 @@
 
 mod calls;
 mod endpoints;
+mod halts;
 mod handler;
 mod init;
 mod notes;

@@ -10,13 +10,24 @@ ghost use Rattle.device_relation.specs.Software.{unused};
 ghost use Rattle.device_relation.specs.Run.{with_table};
 ghost use Rattle.dwc2_device.specs.Driver.{joint, Has, Spends};
 
-use arrayvec::ArrayVec;
 use device_machine::Stage;
-use device_relation::{Heard, Ready};
+use device_relation::{Heard, InEndpoint, OutEndpoint, Ready};
 use dwc2_access::Regs;
 use dwc2_regs::{Profile, diepctl, diepint, doepctl, doepint};
 use std::marker::Model;
-use usb_descriptor::Endpoint;
+
+/// All endpoints of a direction, closed.
+pub(crate) const NO_OUTS: [OutEndpoint; 3] = [
+    OutEndpoint::Closed,
+    OutEndpoint::Closed,
+    OutEndpoint::Closed,
+];
+
+pub(crate) const NO_INS: [InEndpoint; 3] = [
+    InEndpoint::Closed,
+    InEndpoint::Closed,
+    InEndpoint::Closed,
+];
 
 /// The driver of a device's controller. A clause sees it as the controller and what the driver keeps.
 #[derive(Drop)]
@@ -25,7 +36,8 @@ pub struct DevPort<R: Regs> {
     pub(crate) side: Ready,
     pub(crate) heard: Heard,
     pub(crate) next_address: Option<u8>,
-    pub(crate) open_ones: ArrayVec<Endpoint, 30>,
+    pub(crate) outs: [OutEndpoint; 3],
+    pub(crate) ins: [InEndpoint; 3],
     pub(crate) reset: bool,
     pub(crate) finished: Option<Stage>,
     pub(crate) request: Option<[u8; 8]>,
@@ -36,7 +48,7 @@ impl<R: Regs> Model for DevPort<R> {
 
     ghost Value = { Driver };
 
-    ghost view = { λ p. record { bank = R.bank p.regs; software = record { side = p.side; heard = p.heard; next_address = p.next_address; open_ones = p.open_ones.items; reset = p.reset; finished = p.finished; request = p.request } } };
+    ghost view = { λ p. record { bank = R.bank p.regs; software = record { side = p.side; heard = p.heard; next_address = p.next_address; outs = p.outs; ins = p.ins; reset = p.reset; finished = p.finished; request = p.request } } };
 }
 
 impl<R: Regs + Drop> DevPort<R> {
@@ -53,7 +65,8 @@ impl<R: Regs + Drop> DevPort<R> {
             side: Ready::Off,
             heard: Heard::Nothing,
             next_address: None,
-            open_ones: ArrayVec::new(),
+            outs: NO_OUTS,
+            ins: NO_INS,
             reset: false,
             finished: None,
             request: None,

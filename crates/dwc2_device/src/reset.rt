@@ -9,9 +9,9 @@ ghost use Rattle.dwc2_device.specs.Driver.{joint, Wakes, Has, Spends};
 ghost use Rattle.dwc2_device.specs.Phase.{Keeps, quiet, found, closed, shut, over};
 
 use crate::DevPort;
+use crate::port::{NO_INS, NO_OUTS};
 use crate::receive::MOST_ENTRIES;
 use crate::words::{FLUSH_ALL, SNAK_EPDIS, all_in_interrupts, all_out_interrupts, reset_bits};
-use arrayvec::ArrayVec;
 use device_relation::{Heard, Ready};
 use dwc2_access::Regs;
 use dwc2_regs::{DCFG, GINTSTS, GRSTCTL};
@@ -40,7 +40,8 @@ impl<R: Regs + Drop> DevPort<R> {
         self.side = Ready::Off;
         self.heard = Heard::Nothing;
         self.next_address = None;
-        self.open_ones = ArrayVec::new();
+        self.outs = NO_OUTS;
+        self.ins = NO_INS;
         self.reset = true;
         self.finished = None;
         self.request = None;

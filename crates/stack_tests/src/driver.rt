@@ -53,6 +53,9 @@ fn asleep(rt: HostRuntime) {
     port.stall_ep0();
     port.set_address(9);
     port.close_all();
+    port.halt(1);
+    port.clear_halt(0x81);
+    assert_eq!(rt; port.halted_addresses().len(), 0);
     port.regs().begin();
     port.run_handler();
     assert!(rt; matches!(port.next_note(), None));

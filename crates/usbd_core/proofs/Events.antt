@@ -4,12 +4,14 @@ use Rattle.usb_packet.specs.declared.bus.Toggle.{Toggle}
 use Rattle.usb_packet.specs.declared.bus.BusEvent.{BusEvent}
 use Rattle.usb_packet.specs.declared.bus.BusEvent.TheVariants as event
 use Rattle.usb_descriptor.specs.Set.{Set}
-use Rattle.usb_control.specs.declared.state.CoreState.{CoreState}
+use Rattle.usbd_core.specs.declared.state.DevState.{DevState}
 use Rattle.device_machine.specs.declared.control.Stage.{Stage}
 use Rattle.device_machine.specs.declared.control.Stage.TheVariants.{Came}
 use Rattle.device_machine.specs.declared.control.Side.{Side}
 use Rattle.device_machine.specs.declared.control.Side.TheVariants.{Off, Wait, Loaded, Last, Armed, Stall, Finished}
-use Rattle.device_machine.specs.Bus.{Bus, bus_after, after_setup, after_out, after_in, disturbed, takes, hears_setup, hears_out, hears_in, serves}
+use Rattle.device_machine.specs.Bus.{Bus, bus_after, after_setup, after_out, after_in, disturbed, takes, hears, hears_setup, hears_packet, serves}
+use Rattle.device_machine.specs.Pipes.{Pipes}
+use Rattle.device_relation.specs.Relation.{abstract_pipes}
 use Rattle.device_machine.specs.Core.{Transfer, Idle, Sending, Ending, Addressing}
 use Rattle.dwc2_regs.specs.declared.access.TheConstants.{FS4}
 use Rattle.device_relation.specs.Port.{Port}
@@ -52,31 +54,30 @@ by_packet (Finished stage) taken toggle packet e = absurd (cc (e))
 -- the same of the whole of what the bus sees
 record Stays (a b : Bus) : Type 0 where
   address : b.address ≡ a.address
-  endpoints : b.endpoints ≡ a.endpoints
   side : Follows a.side b.side
 
 itself : (a : Bus) → Stays a a
-itself a = record { address = refl; endpoints = refl; side = same a.side }
+itself a = record { address = refl; side = same a.side }
 
 either : (b : Bool) (a x y : Bus) → (b ≡ true → Stays a x) → Stays a y → Stays a (if b then x else y)
 either true a x y h k = h refl
 either false a x y h k = k
 
 setup_stays : (bus : Bus) (bytes : List ℕ) → Stays bus (after_setup bus bytes)
-setup_stays bus bytes = record { address = refl; endpoints = refl; side = by_setup bus.side }
+setup_stays bus bytes = record { address = refl; side = by_setup bus.side }
 
 out_stays : (bus : Bus) (toggle : Toggle) (packet : List ℕ) → Stays bus (after_out bus toggle packet)
 out_stays bus toggle packet =
     either (takes bus.side bus.taken toggle) bus (record bus { side = Finished (Came packet); taken = true }) bus
-    (λ e. record { address = refl; endpoints = refl; side = by_packet bus.side bus.taken toggle packet e }) (itself bus)
+    (λ e. record { address = refl; side = by_packet bus.side bus.taken toggle packet e }) (itself bus)
 
 -- with this on endpoint 0
 abbrev at : Bus → Side → Bus
 at bus side = record bus { side = side }
 
 in_stays : (bus : Bus) (side : Side) → Stays (at bus side) (after_in (at bus side) side)
-in_stays bus (Loaded packet) = record { address = refl; endpoints = refl; side = record { off = λ o. absurd (cc (o)); keeps = λ next due k. k; host = λ h. refl } }
-in_stays bus (Last packet) = record { address = refl; endpoints = refl; side = record { off = λ o. absurd (cc (o)); keeps = λ next due k. k; host = λ h. absurd (cc (h)) } }
+in_stays bus (Loaded packet) = record { address = refl; side = record { off = λ o. absurd (cc (o)); keeps = λ next due k. k; host = λ h. refl } }
+in_stays bus (Last packet) = record { address = refl; side = record { off = λ o. absurd (cc (o)); keeps = λ next due k. k; host = λ h. absurd (cc (h)) } }
 in_stays bus Off = itself (at bus Off)
 in_stays bus (Wait packet last) = itself (at bus (Wait packet last))
 in_stays bus Armed = itself (at bus Armed)
@@ -84,12 +85,12 @@ in_stays bus Stall = itself (at bus Stall)
 in_stays bus (Finished stage) = itself (at bus (Finished stage))
 
 stays : (bus : Bus) (e : BusEvent) → Stays bus (bus_after bus e)
-stays bus event.Reset = record { address = refl; endpoints = refl; side = same bus.side }
+stays bus event.Reset = record { address = refl; side = same bus.side }
 stays bus (event.Setup addr bytes ok) = either (hears_setup bus addr ok) bus (after_setup bus bytes) bus (λ e. setup_stays bus bytes) (itself bus)
 stays bus (event.Out addr ep toggle packet ok) =
-    either (hears_out bus addr ep packet ok && serves bus ep) bus (after_out bus toggle packet) bus (λ e. out_stays bus toggle packet) (itself bus)
+    either (hears_packet bus addr ok && serves bus ep) bus (after_out bus toggle packet) bus (λ e. out_stays bus toggle packet) (itself bus)
 stays bus (event.In addr ep ok) =
-    either (hears_in bus addr ep && (ok && serves bus ep)) bus (after_in bus bus.side) bus (λ e. in_stays bus bus.side) (itself bus)
+    either (hears bus addr && (ok && serves bus ep)) bus (after_in bus bus.side) bus (λ e. in_stays bus bus.side) (itself bus)
 
 -- so the software still fits
 status_stays : (t : Transfer) (a b : Side) → Follows a b → GivesStatus t a → GivesStatus t b
@@ -98,11 +99,10 @@ status_stays Idle a b f g = tt
 status_stays (Sending packets) a b f g = tt
 status_stays Ending a b f g = tt
 
-fits_stays : (set : Set) (p : Port) (bus : Bus) (state : CoreState) (t : Transfer) → Stays p.bus bus → Fits FS4 set p state t → Fits FS4 set (record p { bus = bus }) state t
+fits_stays : (set : Set) (p : Port) (bus : Bus) (state : DevState) (t : Transfer) → Stays p.bus bus → Fits FS4 set p state t → Fits FS4 set (record p { bus = bus }) state t
 fits_stays set p bus state t s f = record {
   quiet = record { reset = f.quiet.reset; finished = f.quiet.finished; request = f.quiet.request };
   address = f.address ∙ sym s.address;
-  endpoints = s.endpoints ∙ f.endpoints;
   served = f.served;
   keeps = s.side.keeps p.next_address (address_of t) f.keeps;
   status = status_stays t p.bus.side bus.side s.side f.status;
@@ -118,7 +118,8 @@ bus_keeps d e a h =
     let s : Stays (bus_of d) next = stays (bus_of d) e in
     record {
       answer = k.answer;
-      core = ap (λ (b : Bus). record (core_of d) { bus = b }) k.next;
+      core = ap (λ (b : Bus). record (core_of d) { bus = b; pipes = abstract_pipes (relation.after_event (joint d.port) e) }) k.next
+          ∙ ap (λ (p : Pipes). record (core_of d) { bus = next; pipes = p }) k.pipes;
       agrees = record {
         sound = k.sound;
         fits = subst (λ (b : Bus). Fits FS4 d.set (record (port_in d) { bus = b }) d.state d.transfer) (sym k.next) (fits_stays d.set (port_in d) next d.state d.transfer s a.fits);

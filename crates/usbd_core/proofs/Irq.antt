@@ -2,29 +2,27 @@
 use Rattle.std.proofs.Common.{◌≡◌, ℕ, List, [], Bool, true, false, Option, Some, None, ap, refl, sym, ◌∙◌, subst}
 use Rattle.std.specs.Prelude.{◌||◌, if◌then◌else◌}
 use Rattle.usb_descriptor.specs.Set.{Set}
-use Rattle.usb_control.specs.declared.state.CoreState.{CoreState}
-use Rattle.usb_control.specs.Table.{unconfigured}
+use Rattle.usbd_core.specs.declared.state.DevState.{DevState}
 use Rattle.device_machine.specs.declared.control.Stage.{Stage}
 use Rattle.device_machine.specs.declared.control.Stage.TheVariants.{Sent, Came}
 use Rattle.device_machine.specs.declared.control.Side.{Side}
 use Rattle.device_machine.specs.declared.control.Side.TheVariants.{Off, Wait, Loaded, Last, Armed, Stall, Finished}
 use Rattle.device_machine.specs.Bus.{Bus, finished_stage, loaded, last_of}
+use Rattle.device_machine.specs.Pipes.{Pipes, pipes_after_irq}
 use Rattle.device_machine.specs.Core as core
 use Rattle.device_machine.specs.Core.{Core, Transfer, Idle, Sending, Ending, Addressing, after_irq}
 use Rattle.dwc2_regs.specs.declared.access.TheConstants.{FS4}
-use Rattle.device_table.specs.State.{Table}
-use Rattle.device_relation.specs.Software.{Software}
-use Rattle.device_relation.specs.Relation.{Stands, IsSound, is_idle, abstract}
+use Rattle.device_relation.specs.Relation.{IsSound, is_idle, abstract}
 use Rattle.device_relation.specs.Port as port
 use Rattle.device_relation.specs.Port.{Port, port_of, after_handler}
 use Rattle.device_relation.proofs.Runs.{other_notes}
 use Rattle.dwc2_device.specs.Driver.{Driver, joint}
 use Rattle.usbd_core.specs.Device.{Device, KeepsAddress, is_for_host, GivesStatus, Fits, Rests, Agrees, IsQuiet, address_of, core_of, port_in}
-use Rattle.usbd_core.specs.Hears.{state_sent, with_driver, after_note}
+use Rattle.usbd_core.specs.Hears.{unconfigured, state_sent, with_driver, after_note}
 
 -- What the software keeps beside its driver.
 record Kept : Type 0 where
-  state : CoreState
+  state : DevState
   finished : Option Stage
   request : Option (List ℕ)
   transfer : Transfer
@@ -74,8 +72,8 @@ heard_all d false (Some (Came packet)) (Some bytes) h = refl
 
 -- Over the driver's device with its notes: what it and the software are together, and what holds of them.
 
-abbrev with_kept : Bus → Kept → Core
-with_kept bus k = record { bus = bus; session = k.state.configured; halted = k.state.halted.items; finished = k.finished; request = k.request; transfer = k.transfer }
+abbrev with_kept : Pipes → Bus → Kept → Core
+with_kept ps bus k = record { bus = bus; pipes = ps; session = k.state.configured; finished = k.finished; request = k.request; transfer = k.transfer }
 
 abbrev after : Kept → Port → Kept
 after k p = with_notes k p.reset p.finished p.request
@@ -86,16 +84,16 @@ quiet_port p = record p { reset = false; finished = None; request = None }
 -- the notes are those of one run; and once the software, which they made this, has taken them, all is as this core, and agrees
 record Settles (set : Set) (k : Kept) (c : Core) (p : Port) : Type 0 where
   alone : IsAlone p.reset p.finished p.request
-  core : with_kept p.bus k ≡ c
+  core : with_kept p.pipes p.bus k ≡ c
   fits : Fits FS4 set (quiet_port p) k.state k.transfer
   rests : Rests (quiet_port p) k.finished k.request
 
 -- a device without notes
-abbrev plain : Bus → Bool → Option ℕ → Port
-plain bus heard next = record { bus = bus; heard = heard; next_address = next; reset = false; finished = None; request = None }
+abbrev plain : Pipes → Bus → Bool → Option ℕ → Port
+plain ps bus heard next = record { bus = bus; pipes = ps; heard = heard; next_address = next; reset = false; finished = None; request = None }
 
-is_quiet : (bus : Bus) (heard : Bool) (next : Option ℕ) → IsQuiet (plain bus heard next)
-is_quiet bus heard next = record { reset = refl; finished = refl; request = refl }
+is_quiet : (ps : Pipes) (bus : Bus) (heard : Bool) (next : Option ℕ) → IsQuiet (plain ps bus heard next)
+is_quiet ps bus heard next = record { reset = refl; finished = refl; request = refl }
 
 -- the packet that waits is loaded
 keeps_loaded : (side : Side) (next due : Option ℕ) → KeepsAddress side next due → KeepsAddress (loaded side) next due
@@ -131,29 +129,27 @@ status_off (Sending packets) = tt
 status_off Ending = tt
 
 -- no stage finished
-request_settles : (set : Set) (k : Kept) (bus : Bus) (heard : Bool) (next : Option ℕ) (last : Option (List ℕ))
-    → Fits FS4 set (plain bus heard next) k.state k.transfer → Rests (plain bus heard next) k.finished k.request
-    → Settles set (after k (port.with_request (plain bus heard next) last)) (core.with_request (with_kept bus k) last) (port.with_request (plain bus heard next) last)
-request_settles set k bus heard next None f r = record {
+request_settles : (ps : Pipes) (set : Set) (k : Kept) (bus : Bus) (heard : Bool) (next : Option ℕ) (last : Option (List ℕ))
+    → Fits FS4 set (plain ps bus heard next) k.state k.transfer → Rests (plain ps bus heard next) k.finished k.request
+    → Settles set (after k (port.with_pipes_served (port.with_request (plain ps bus heard next) last))) (core.with_pipes_served (core.with_request (with_kept ps bus k) last)) (port.with_pipes_served (port.with_request (plain ps bus heard next) last))
+request_settles ps set k bus heard next None f r = record {
   alone = tt;
   core = refl;
   fits = record {
-    quiet = is_quiet (record bus { side = loaded bus.side }) heard next;
+    quiet = is_quiet (pipes_after_irq ps) (record bus { side = loaded bus.side }) heard next;
     address = f.address;
-    endpoints = f.endpoints;
     served = f.served;
     keeps = keeps_loaded bus.side next (address_of k.transfer) f.keeps;
     status = status_loaded k.transfer bus.side f.status;
   };
   rests = λ e. (ap loaded (r e).0, (r e).1);
 }
-request_settles set k bus heard next (Some bytes) f r = record {
+request_settles ps set k bus heard next (Some bytes) f r = record {
   alone = tt;
   core = refl;
   fits = record {
-    quiet = is_quiet (record bus { unserved = []; side = Off }) true None;
+    quiet = is_quiet (pipes_after_irq ps) (record bus { unserved = []; side = Off }) true None;
     address = f.address;
-    endpoints = f.endpoints;
     served = f.served;
     keeps = tt;
     status = status_off k.transfer;
@@ -165,27 +161,27 @@ request_settles set k bus heard next (Some bytes) f r = record {
 abbrev at : Bus → Side → Bus
 at bus side = record bus { side = side }
 
-stage_settles : (set : Set) (k : Kept) (bus : Bus) (stage : Stage) (last : Option (List ℕ)) → with_finished k (Some stage) ≡ record k { finished = Some stage }
-    → Fits FS4 set (plain (at bus (Finished stage)) true None) k.state k.transfer
-    → Settles set (after k (port.with_request (port.with_stage (plain (at bus (Finished stage)) true None) stage) last))
-    (core.with_request (core.with_stage (with_kept (at bus (Finished stage)) k) (Some stage)) last)
-    (port.with_request (port.with_stage (plain (at bus (Finished stage)) true None) stage) last)
-stage_settles set k bus stage None e f =
-    subst (λ (n : Kept). Settles set n (core.with_request (core.with_stage (with_kept (at bus (Finished stage)) k) (Some stage)) None) (port.with_request (port.with_stage (plain (at bus (Finished stage)) true None) stage) None))
+stage_settles : (ps : Pipes) (set : Set) (k : Kept) (bus : Bus) (stage : Stage) (last : Option (List ℕ)) → with_finished k (Some stage) ≡ record k { finished = Some stage }
+    → Fits FS4 set (plain ps (at bus (Finished stage)) true None) k.state k.transfer
+    → Settles set (after k (port.with_pipes_served (port.with_request (port.with_stage (plain ps (at bus (Finished stage)) true None) stage) last)))
+    (core.with_pipes_served (core.with_request (core.with_stage (with_kept ps (at bus (Finished stage)) k) (Some stage)) last))
+    (port.with_pipes_served (port.with_request (port.with_stage (plain ps (at bus (Finished stage)) true None) stage) last))
+stage_settles ps set k bus stage None e f =
+    subst (λ (n : Kept). Settles set n (core.with_pipes_served (core.with_request (core.with_stage (with_kept ps (at bus (Finished stage)) k) (Some stage)) None)) (port.with_pipes_served (port.with_request (port.with_stage (plain ps (at bus (Finished stage)) true None) stage) None)))
     (sym e)
     (record {
       alone = tt;
       core = refl;
-      fits = record { quiet = is_quiet (at bus Off) true None; address = f.address; endpoints = f.endpoints; served = f.served; keeps = tt; status = status_off k.transfer };
+      fits = record { quiet = is_quiet (pipes_after_irq ps) (at bus Off) true None; address = f.address; served = f.served; keeps = tt; status = status_off k.transfer };
       rests = λ e. (refl, refl);
     })
-stage_settles set k bus stage (Some bytes) e f =
-    subst (λ (n : Kept). Settles set (record n { request = Some bytes }) (core.with_request (core.with_stage (with_kept (at bus (Finished stage)) k) (Some stage)) (Some bytes)) (port.with_request (port.with_stage (plain (at bus (Finished stage)) true None) stage) (Some bytes)))
+stage_settles ps set k bus stage (Some bytes) e f =
+    subst (λ (n : Kept). Settles set (record n { request = Some bytes }) (core.with_pipes_served (core.with_request (core.with_stage (with_kept ps (at bus (Finished stage)) k) (Some stage)) (Some bytes))) (port.with_pipes_served (port.with_request (port.with_stage (plain ps (at bus (Finished stage)) true None) stage) (Some bytes))))
     (sym e)
     (record {
       alone = tt;
       core = refl;
-      fits = record { quiet = is_quiet (record bus { unserved = []; side = Off }) true None; address = f.address; endpoints = f.endpoints; served = f.served; keeps = tt; status = status_off k.transfer };
+      fits = record { quiet = is_quiet (pipes_after_irq ps) (record bus { unserved = []; side = Off }) true None; address = f.address; served = f.served; keeps = tt; status = status_off k.transfer };
       rests = λ e. (refl, refl);
     })
 
@@ -194,34 +190,34 @@ abbrev on : Kept → Transfer → Kept
 on k t = record k { transfer = t }
 
 -- the stage of a transfer finished
-abbrev port_finished : Bus → Option ℕ → Stage → Port
-port_finished bus next stage = port.with_stages (plain (at bus (Finished stage)) true next) (Some stage)
+abbrev port_finished : Pipes → Bus → Option ℕ → Stage → Port
+port_finished ps bus next stage = port.with_stages (plain ps (at bus (Finished stage)) true next) (Some stage)
 
-abbrev core_finished : Bus → Kept → Stage → Core
-core_finished bus k stage = core.after_stages (with_kept (at bus (Finished stage)) k) (core.new_address k.transfer (Some stage))
+abbrev core_finished : Pipes → Bus → Kept → Stage → Core
+core_finished ps bus k stage = core.after_stages (with_kept ps (at bus (Finished stage)) k) (core.new_address k.transfer (Some stage))
 
-transfer_settles : (set : Set) (k : Kept) (bus : Bus) (stage : Stage) (t : Transfer) → Fits FS4 set (plain (at bus (Finished stage)) true (address_of t)) k.state t
-    → Settles set (after (on k t) (port_finished bus (address_of t) stage)) (core_finished bus (on k t) stage) (port_finished bus (address_of t) stage)
-transfer_settles set k bus Sent (Addressing n) f = record {
+transfer_settles : (ps : Pipes) (set : Set) (k : Kept) (bus : Bus) (stage : Stage) (t : Transfer) → Fits FS4 set (plain ps (at bus (Finished stage)) true (address_of t)) k.state t
+    → Settles set (after (on k t) (port_finished ps bus (address_of t) stage)) (core_finished ps bus (on k t) stage) (port_finished ps bus (address_of t) stage)
+transfer_settles ps set k bus Sent (Addressing n) f = record {
   alone = tt;
   core = refl;
-  fits = record { quiet = is_quiet (record bus { side = Off; address = n }) true None; address = refl; endpoints = f.endpoints; served = f.served; keeps = tt; status = refl };
+  fits = record { quiet = is_quiet ps (record bus { side = Off; address = n }) true None; address = refl; served = f.served; keeps = tt; status = refl };
   rests = λ e. (refl, refl);
 }
-transfer_settles set k bus (Came bytes) (Addressing n) f = absurd (cc (f.status))
-transfer_settles set k bus Sent Idle f = stage_settles set (on k Idle) bus Sent (last_of bus.unserved) refl f
-transfer_settles set k bus (Came bytes) Idle f = stage_settles set (on k Idle) bus (Came bytes) (last_of bus.unserved) refl f
-transfer_settles set k bus Sent (Sending packets) f = stage_settles set (on k (Sending packets)) bus Sent (last_of bus.unserved) refl f
-transfer_settles set k bus (Came bytes) (Sending packets) f = stage_settles set (on k (Sending packets)) bus (Came bytes) (last_of bus.unserved) refl f
-transfer_settles set k bus Sent Ending f = stage_settles set (on k Ending) bus Sent (last_of bus.unserved) refl f
-transfer_settles set k bus (Came bytes) Ending f = stage_settles set (on k Ending) bus (Came bytes) (last_of bus.unserved) refl f
+transfer_settles ps set k bus (Came bytes) (Addressing n) f = absurd (cc (f.status))
+transfer_settles ps set k bus Sent Idle f = stage_settles ps set (on k Idle) bus Sent (last_of bus.unserved) refl f
+transfer_settles ps set k bus (Came bytes) Idle f = stage_settles ps set (on k Idle) bus (Came bytes) (last_of bus.unserved) refl f
+transfer_settles ps set k bus Sent (Sending packets) f = stage_settles ps set (on k (Sending packets)) bus Sent (last_of bus.unserved) refl f
+transfer_settles ps set k bus (Came bytes) (Sending packets) f = stage_settles ps set (on k (Sending packets)) bus (Came bytes) (last_of bus.unserved) refl f
+transfer_settles ps set k bus Sent Ending f = stage_settles ps set (on k Ending) bus Sent (last_of bus.unserved) refl f
+transfer_settles ps set k bus (Came bytes) Ending f = stage_settles ps set (on k Ending) bus (Came bytes) (last_of bus.unserved) refl f
 
 -- a run that finds no reset, by what endpoint 0 holds
-abbrev port_at : Bus → Bool → Option ℕ → Side → Port
-port_at bus heard next side = port.with_stages (plain (at bus side) heard next) (finished_stage side)
+abbrev port_at : Pipes → Bus → Bool → Option ℕ → Side → Port
+port_at ps bus heard next side = port.with_stages (plain ps (at bus side) heard next) (finished_stage side)
 
-abbrev core_at : Bus → Kept → Side → Core
-core_at bus k side = core.after_stages (with_kept (at bus side) k) (core.new_address k.transfer (finished_stage side))
+abbrev core_at : Pipes → Bus → Kept → Side → Core
+core_at ps bus k side = core.after_stages (with_kept ps (at bus side) k) (core.new_address k.transfer (finished_stage side))
 
 no_address : (t : Transfer) → core.new_address t None ≡ None
 no_address (Addressing n) = refl
@@ -229,40 +225,40 @@ no_address Idle = refl
 no_address (Sending packets) = refl
 no_address Ending = refl
 
-idle_settles : (set : Set) (k : Kept) (bus : Bus) (heard : Bool) (next : Option ℕ) (side : Side) → finished_stage side ≡ None
-    → Fits FS4 set (plain (at bus side) heard next) k.state k.transfer → Rests (plain (at bus side) heard next) k.finished k.request
-    → Settles set (after k (port_at bus heard next side)) (core_at bus k side) (port_at bus heard next side)
-idle_settles set k bus heard next side e f r =
+idle_settles : (ps : Pipes) (set : Set) (k : Kept) (bus : Bus) (heard : Bool) (next : Option ℕ) (side : Side) → finished_stage side ≡ None
+    → Fits FS4 set (plain ps (at bus side) heard next) k.state k.transfer → Rests (plain ps (at bus side) heard next) k.finished k.request
+    → Settles set (after k (port_at ps bus heard next side)) (core_at ps bus k side) (port_at ps bus heard next side)
+idle_settles ps set k bus heard next side e f r =
     let none : core.new_address k.transfer (finished_stage side) ≡ None = ap (core.new_address k.transfer) e ∙ no_address k.transfer in
     let b : Bus = at bus side in
-    let done = request_settles set k b heard next (last_of bus.unserved) f r in
-    let found : Settles set (after k (port.with_stages (plain b heard next) None)) (core.after_stages (with_kept b k) None) (port.with_stages (plain b heard next) None) =
-    subst (λ (x : Option Stage). Settles set (after k (port.with_stages (plain b heard next) None)) (core.with_request (core.with_stage (with_kept b k) x) (last_of bus.unserved)) (port.with_stages (plain b heard next) None)) (sym e) done in
-    subst (λ (a : Option ℕ). Settles set (after k (port_at bus heard next side)) (core.after_stages (with_kept b k) a) (port_at bus heard next side)) (sym none)
-    (subst (λ (x : Option Stage). Settles set (after k (port.with_stages (plain b heard next) x)) (core.after_stages (with_kept b k) None) (port.with_stages (plain b heard next) x)) (sym e) found)
+    let done = request_settles ps set k b heard next (last_of bus.unserved) f r in
+    let found : Settles set (after k (port.with_stages (plain ps b heard next) None)) (core.after_stages (with_kept ps b k) None) (port.with_stages (plain ps b heard next) None) =
+    subst (λ (x : Option Stage). Settles set (after k (port.with_stages (plain ps b heard next) None)) (core.with_pipes_served (core.with_request (core.with_stage (with_kept ps b k) x) (last_of bus.unserved))) (port.with_stages (plain ps b heard next) None)) (sym e) done in
+    subst (λ (a : Option ℕ). Settles set (after k (port_at ps bus heard next side)) (core.after_stages (with_kept ps b k) a) (port_at ps bus heard next side)) (sym none)
+    (subst (λ (x : Option Stage). Settles set (after k (port.with_stages (plain ps b heard next) x)) (core.after_stages (with_kept ps b k) None) (port.with_stages (plain ps b heard next) x)) (sym e) found)
 
 was_first : (heard : Bool) → (heard || false) ≡ true → heard ≡ true
 was_first true e = refl
 was_first false e = e
 
-side_settles : (set : Set) (k : Kept) (bus : Bus) (heard : Bool) (next : Option ℕ) (side : Side) → (heard || is_idle side) ≡ true
-    → Fits FS4 set (plain (at bus side) heard next) k.state k.transfer → Rests (plain (at bus side) heard next) k.finished k.request
-    → Settles set (after k (port_at bus heard next side)) (core_at bus k side) (port_at bus heard next side)
-side_settles set k bus heard next Off h f r = idle_settles set k bus heard next Off refl f r
-side_settles set k bus heard next (Wait packet last) h f r = idle_settles set k bus heard next (Wait packet last) refl f r
-side_settles set k bus heard next (Loaded packet) h f r = idle_settles set k bus heard next (Loaded packet) refl f r
-side_settles set k bus heard next (Last packet) h f r = idle_settles set k bus heard next (Last packet) refl f r
-side_settles set k bus heard next Armed h f r = idle_settles set k bus heard next Armed refl f r
-side_settles set k bus heard next Stall h f r = idle_settles set k bus heard next Stall refl f r
-side_settles set k bus heard next (Finished stage) h f r =
+side_settles : (ps : Pipes) (set : Set) (k : Kept) (bus : Bus) (heard : Bool) (next : Option ℕ) (side : Side) → (heard || is_idle side) ≡ true
+    → Fits FS4 set (plain ps (at bus side) heard next) k.state k.transfer → Rests (plain ps (at bus side) heard next) k.finished k.request
+    → Settles set (after k (port_at ps bus heard next side)) (core_at ps bus k side) (port_at ps bus heard next side)
+side_settles ps set k bus heard next Off h f r = idle_settles ps set k bus heard next Off refl f r
+side_settles ps set k bus heard next (Wait packet last) h f r = idle_settles ps set k bus heard next (Wait packet last) refl f r
+side_settles ps set k bus heard next (Loaded packet) h f r = idle_settles ps set k bus heard next (Loaded packet) refl f r
+side_settles ps set k bus heard next (Last packet) h f r = idle_settles ps set k bus heard next (Last packet) refl f r
+side_settles ps set k bus heard next Armed h f r = idle_settles ps set k bus heard next Armed refl f r
+side_settles ps set k bus heard next Stall h f r = idle_settles ps set k bus heard next Stall refl f r
+side_settles ps set k bus heard next (Finished stage) h f r =
     let b : Bus = at bus (Finished stage) in
     let hears : heard ≡ true = was_first heard h in
     let brings : next ≡ address_of k.transfer = f.keeps in
-    let heard_fits = subst (λ (x : Bool). Fits FS4 set (plain b x next) k.state k.transfer) hears f in
-    let fits = subst (λ (x : Option ℕ). Fits FS4 set (plain b true x) k.state k.transfer) brings heard_fits in
-    subst (λ (x : Bool). Settles set (after k (port_at bus x next (Finished stage))) (core_at bus k (Finished stage)) (port_at bus x next (Finished stage))) (sym hears)
-    (subst (λ (x : Option ℕ). Settles set (after k (port_at bus true x (Finished stage))) (core_at bus k (Finished stage)) (port_at bus true x (Finished stage))) (sym brings)
-    (transfer_settles set k bus stage k.transfer fits))
+    let heard_fits = subst (λ (x : Bool). Fits FS4 set (plain ps b x next) k.state k.transfer) hears f in
+    let fits = subst (λ (x : Option ℕ). Fits FS4 set (plain ps b true x) k.state k.transfer) brings heard_fits in
+    subst (λ (x : Bool). Settles set (after k (port_at ps bus x next (Finished stage))) (core_at ps bus k (Finished stage)) (port_at ps bus x next (Finished stage))) (sym hears)
+    (subst (λ (x : Option ℕ). Settles set (after k (port_at ps bus true x (Finished stage))) (core_at ps bus k (Finished stage)) (port_at ps bus true x (Finished stage))) (sym brings)
+    (transfer_settles ps set k bus stage k.transfer fits))
 
 -- a run, by whether it finds a reset
 abbrev port_by : Bool → Port → Port
@@ -271,29 +267,29 @@ port_by reset p = if reset then port.port_reset else port.with_stages p (finishe
 abbrev core_by : Bool → Core → Core
 core_by reset c = if reset then core.emptied true else core.after_stages c (core.new_address c.transfer (finished_stage c.bus.side))
 
-reset_settles : (set : Set) (k : Kept) (bus : Bus) (heard : Bool) (next : Option ℕ) (reset : Bool) → (heard || is_idle bus.side) ≡ true
-    → Fits FS4 set (plain bus heard next) k.state k.transfer → Rests (plain bus heard next) k.finished k.request
-    → Settles set (after k (port_by reset (plain bus heard next))) (core_by reset (with_kept bus k)) (port_by reset (plain bus heard next))
-reset_settles set k bus heard next true h f r = record {
+reset_settles : (ps : Pipes) (set : Set) (k : Kept) (bus : Bus) (heard : Bool) (next : Option ℕ) (reset : Bool) → (heard || is_idle bus.side) ≡ true
+    → Fits FS4 set (plain ps bus heard next) k.state k.transfer → Rests (plain ps bus heard next) k.finished k.request
+    → Settles set (after k (port_by reset (plain ps bus heard next))) (core_by reset (with_kept ps bus k)) (port_by reset (plain ps bus heard next))
+reset_settles ps set k bus heard next true h f r = record {
   alone = (refl, refl);
   core = refl;
-  fits = record { quiet = record { reset = refl; finished = refl; request = refl }; address = refl; endpoints = refl; served = f.served; keeps = tt; status = tt };
+  fits = record { quiet = record { reset = refl; finished = refl; request = refl }; address = refl; served = f.served; keeps = tt; status = tt };
   rests = λ e. absurd (cc (e));
 }
-reset_settles set k bus heard next false h f r = side_settles set k bus heard next bus.side h f r
+reset_settles ps set k bus heard next false h f r = side_settles ps set k bus heard next bus.side h f r
 
-is_plain : (p : Port) → IsQuiet p → p ≡ plain p.bus p.heard p.next_address
+is_plain : (p : Port) → IsQuiet p → p ≡ plain p.pipes p.bus p.heard p.next_address
 is_plain p q =
     ap (λ (x : Bool). record p { reset = x }) q.reset
     ∙ ap (λ (x : Option Stage). record p { reset = false; finished = x }) q.finished
     ∙ ap (λ (x : Option (List ℕ)). record p { reset = false; finished = None; request = x }) q.request
 
 run_settles : (set : Set) (k : Kept) (p : Port) → (p.heard || is_idle p.bus.side) ≡ true → Fits FS4 set p k.state k.transfer → Rests p k.finished k.request
-    → Settles set (after k (after_handler p)) (after_irq (with_kept p.bus k)) (after_handler p)
+    → Settles set (after k (after_handler p)) (after_irq (with_kept p.pipes p.bus k)) (after_handler p)
 run_settles set k p h f r =
-    let e : p ≡ plain p.bus p.heard p.next_address = is_plain p f.quiet in
-    subst (λ (x : Port). Settles set (after k (after_handler x)) (after_irq (with_kept p.bus k)) (after_handler x)) (sym e)
-    (reset_settles set k p.bus p.heard p.next_address p.bus.reset h (subst (λ (x : Port). Fits FS4 set x k.state k.transfer) e f) r)
+    let e : p ≡ plain p.pipes p.bus p.heard p.next_address = is_plain p f.quiet in
+    subst (λ (x : Port). Settles set (after k (after_handler x)) (after_irq (with_kept p.pipes p.bus k)) (after_handler x)) (sym e)
+    (reset_settles p.pipes set k p.bus p.heard p.next_address p.bus.reset h (subst (λ (x : Port). Fits FS4 set x k.state k.transfer) e f) r)
 
 -- Over the driver.
 

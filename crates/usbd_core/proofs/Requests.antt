@@ -19,8 +19,7 @@ use Rattle.device_machine.specs.declared.control.Stage.TheVariants.{Sent}
 use Rattle.device_machine.specs.Packets.{data_packets}
 use Rattle.device_machine.specs.Core.{Core, Sending, ending, state_of, sending, advanced, begun, work_request, with_request_worked}
 use Rattle.device_relation.specs.Relation.{IsAddress}
-use Rattle.dwc2_regs.specs.declared.access.Profile.{Profile}
-use Rattle.usbd_core.specs.Device.{Device, address_of, core_of, port_in, Fits}
+use Rattle.usbd_core.specs.Device.{Device, address_of, core_of}
 
 abbrev IsNear : Choice → Type 0
 IsNear (Own d e) = IsAddress (address_of (ending e))
@@ -116,10 +115,10 @@ data_given set core bytes packets zero c is all some = absurd (omega arith)
 data_given set core bytes packets (suc n) c is all some =
     sent_data core packets ∙ ap (sending core) all ∙ ap (λ (x : Choice). begun set core x (suc n)) is
 
-pub data_begun : (profile : Profile) (view old : Device) (bytes : List ℕ) (packets : List (List ℕ)) (setup : Setup) → view ≡ old → Fits profile old.set (port_in old) old.state old.transfer
-    → gives bytes ≡ choice view.set view.state setup → packets ≡ data_packets bytes setup.length → 0 < setup.length
+pub data_begun : (view old : Device) (state : CoreState) (bytes : List ℕ) (packets : List (List ℕ)) (setup : Setup) → view ≡ old → state ≡ state_of (core_of old)
+    → gives bytes ≡ choice view.set state setup → packets ≡ data_packets bytes setup.length → 0 < setup.length
     → advanced (record (core_of view) { transfer = Sending packets }) (Sending packets) Sent ≡ begun old.set (core_of old) (choice old.set (state_of (core_of old)) setup) setup.length
-data_begun profile view old bytes packets setup v fits is all some =
-    data_given view.set (core_of view) bytes packets setup.length (choice view.set view.state setup) is all some
-    ∙ ap (λ (d : Device). begun d.set (core_of d) (choice d.set d.state setup) setup.length) v
-    ∙ ap (λ (n : ℕ). begun old.set (core_of old) (choice old.set (record old.state { addr = n }) setup) setup.length) fits.address
+data_begun view old state bytes packets setup v same is all some =
+    data_given view.set (core_of view) bytes packets setup.length (choice view.set state setup) is all some
+    ∙ ap (λ (d : Device). begun d.set (core_of d) (choice d.set state setup) setup.length) v
+    ∙ ap (λ (x : CoreState). begun old.set (core_of old) (choice old.set x setup) setup.length) same

@@ -5,17 +5,16 @@ use Rattle.dwc2_regs.specs.declared.access.Profile.{Profile}
 use Rattle.usb_descriptor.specs.declared.limits.EpLimits.{EpLimits}
 use Rattle.usb_descriptor.specs.Set.{Set, endpoints_of}
 use Rattle.usb_descriptor.specs.Served.{AreServed}
-use Rattle.usb_control.specs.declared.state.CoreState.{CoreState}
 use Rattle.device_machine.specs.declared.control.Stage.{Stage}
 use Rattle.device_machine.specs.declared.control.Stage.TheVariants.{Sent, Came}
 use Rattle.device_machine.specs.declared.control.Side.{Side}
 use Rattle.device_machine.specs.declared.control.Side.TheVariants.{Off, Wait, Loaded, Last, Armed, Stall, Finished}
 use Rattle.device_machine.specs.Bus.{Bus}
-use Rattle.device_machine.specs.Session.{opened}
 use Rattle.device_machine.specs.Core.{Core, Transfer, Idle, Sending, Ending, Addressing}
-use Rattle.device_relation.specs.Relation.{IsSound, abstract}
+use Rattle.device_relation.specs.Relation.{IsSound, abstract, abstract_pipes}
 use Rattle.device_relation.specs.Port.{Port, port_of}
 use Rattle.dwc2_device.specs.Driver.{Driver, joint}
+use Rattle.usbd_core.specs.declared.state.DevState.{DevState}
 use Rattle.usbd_core.specs.declared.transfer.Transfer as declared
 use Rattle.usbd_core.specs.declared.transfer.Transfer.TheVariants as transfer
 
@@ -24,8 +23,8 @@ pub record Device : Type 0 where
   pub set : Set
   -- the driver with the controller
   pub port : Driver
-  -- its address, whether a session stands, and what is halted
-  pub state : CoreState
+  -- its address, and whether a session stands
+  pub state : DevState
   -- the notes that no task has taken
   pub finished : Option Stage
   pub request : Option (List ℕ)
@@ -47,8 +46,8 @@ bus_of d = abstract (joint d.port)
 abbrev pub core_of : Device → Core
 core_of d = record {
   bus = bus_of d;
+  pipes = abstract_pipes (joint d.port);
   session = d.state.configured;
-  halted = d.state.halted.items;
   finished = d.finished;
   request = d.request;
   transfer = d.transfer;
@@ -111,10 +110,9 @@ abbrev pub tops : Profile → EpLimits
 tops profile = record { in_top = profile.in_eps; out_top = profile.out_eps; report_known = true }
 
 -- what the software keeps is what the driver's device has
-pub record Fits (profile : Profile) (set : Set) (p : Port) (state : CoreState) (transfer : Transfer) : Type 0 where
+pub record Fits (profile : Profile) (set : Set) (p : Port) (state : DevState) (transfer : Transfer) : Type 0 where
   pub quiet : IsQuiet p
   pub address : state.addr ≡ p.bus.address
-  pub endpoints : p.bus.endpoints ≡ opened set state.configured
   pub served : AreServed (tops profile) (endpoints_of set.config)
   pub keeps : KeepsAddress p.bus.side p.next_address (address_of transfer)
   pub status : GivesStatus transfer p.bus.side

@@ -1,7 +1,6 @@
 -- What the software makes of its driver's notes.
-use Rattle.std.specs.Prelude.{Option, Some, None}
-use Rattle.usb_control.specs.declared.state.CoreState.{CoreState}
-use Rattle.usb_control.specs.Table.{unconfigured}
+use Rattle.std.specs.Prelude.{false, Option, Some, None}
+use Rattle.usbd_core.specs.declared.state.DevState.{DevState}
 use Rattle.device_machine.specs.declared.control.Stage.TheVariants.{Sent, Came}
 use Rattle.device_machine.specs.Core.{Transfer, Idle, Sending, Ending, Addressing}
 use Rattle.dwc2_device.specs.Driver.{Driver}
@@ -10,12 +9,16 @@ use Rattle.dwc2_device.specs.declared.notes.Note.{Note}
 use Rattle.dwc2_device.specs.declared.notes.Note.TheVariants.{Reset, Ep0In, Ep0Out, Setup}
 use Rattle.usbd_core.specs.Device.{Device}
 
+-- at the start, and after a reset
+abbrev pub unconfigured : DevState
+unconfigured = record { addr = 0; configured = false }
+
 -- a reset ends the session and all that went on (USB 2.0, 9.1.1.3)
 abbrev pub forgotten : Device → Device
 forgotten d = record d { state = unconfigured; finished = None; request = None; transfer = Idle }
 
 -- the end of the status stage of SET_ADDRESS brings the address (9.4.6)
-abbrev pub state_sent : CoreState → Transfer → CoreState
+abbrev pub state_sent : DevState → Transfer → DevState
 state_sent state (Addressing n) = record state { addr = n }
 state_sent state Idle = state
 state_sent state (Sending packets) = state

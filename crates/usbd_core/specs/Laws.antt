@@ -14,7 +14,7 @@ after_event d e = record d { port = record d.port { bank = record d.port.bank { 
 
 -- the controller answers what the core answers, the core that the device is makes its step, and all agree as before
 pub record Keeps (profile : Profile) (d : Device) (e : BusEvent) : Type 0 where
-  pub answer : table.bus_answer d.port.bank.table e ≡ bus.bus_answer (core_of d).bus e
+  pub answer : table.bus_answer d.port.bank.table e ≡ bus.bus_answer (core_of d).bus (core_of d).pipes e
   pub core : core_of (after_event d e) ≡ after_bus (core_of d) e
   pub agrees : Agrees profile (after_event d e)
 

@@ -1,7 +1,10 @@
--- What a task needs of endpoint 0 before it gives it a stage, and the endpoints that it opens.
-use Rattle.std.specs.Prelude.{◌≡◌, ℕ, true, IsTrue, List, Option, Some, None}
+-- What a task needs of endpoint 0 before it gives it a stage, and what it does to the other endpoints.
+use Rattle.std.specs.Prelude.{◌≡◌, ℕ, Bool, true, IsTrue, List, Option, Some, None}
+use Rattle.std.specs.List.{AllByRecursion}
 use Rattle.usb_descriptor.specs.declared.endpoint.Endpoint.{Endpoint}
+use Rattle.usb_descriptor.specs.Set.{is_core}
 use Rattle.dwc2_regs.specs.declared.access.Profile.{Profile}
+use Rattle.device_machine.specs.Pipes.{with_endpoints_open, session_pipes, without_halt_if, without_halts}
 use Rattle.device_relation.specs.Relation.{IsSound}
 use Rattle.device_relation.specs.Port.{Port, may_start}
 use Rattle.device_table.specs.Bank.{Bank}
@@ -36,6 +39,19 @@ abbrev pub IsFreeFor : Option (List ℕ) → Port → Type 0
 IsFreeFor None p = Unit {0}
 IsFreeFor (Some bytes) p = IsFree p
 
--- with these endpoints open
+-- endpoints of the core
+abbrev pub AreCores : List Endpoint → Type 0
+AreCores endpoints = AllByRecursion (λ e. is_core e.owner ≡ true) endpoints
+
+-- with these endpoints opened; with these and no others; with the halts ended of those that are named
 abbrev pub with_endpoints : Port → List Endpoint → Port
-with_endpoints p endpoints = record p { bus = record p.bus { endpoints = endpoints } }
+with_endpoints p endpoints = record p { pipes = with_endpoints_open p.pipes endpoints }
+
+abbrev pub with_session : Port → List Endpoint → Port
+with_session p endpoints = record p { pipes = session_pipes endpoints p.pipes }
+
+abbrev pub with_halt_ended_if : Bool → Port → ℕ → Port
+with_halt_ended_if named p address = record p { pipes = without_halt_if named p.pipes address }
+
+abbrev pub with_halts_ended : (ℕ → Bool) → Port → List Endpoint → Port
+with_halts_ended named p endpoints = record p { pipes = without_halts named p.pipes endpoints }

@@ -3,11 +3,12 @@
 #![tactic(auto)]
 
 mod data;
-mod halted;
 pub mod laws;
 mod stack;
+mod state;
 mod task;
 mod transfer;
 
 pub use stack::DevStack;
+pub use state::DevState;
 pub use usb_control::CoreState;

@@ -7,9 +7,11 @@ ghost use Rattle.device_machine.specs.Core.{start, state_of, after_irq};
 ghost use Rattle.dwc2_device.specs.Driver.{Has, Spends};
 ghost use Rattle.dwc2_device.specs.Phase.{Keeps, quiet, over};
 ghost use Rattle.usbd_core.specs.Device.{tops, core_of, Agrees};
+ghost use Rattle.usbd_core.specs.Task.{Holds};
 ghost use Rattle.usbd_core.specs.Hears.{forgotten, sent, after_note};
 
 use crate::data::DataStage;
+use crate::state::{DevState, UNCONFIGURED};
 use crate::transfer::Transfer;
 use device_machine::Stage;
 use dwc2_access::Regs;
@@ -35,7 +37,7 @@ const LIMITS: EpLimits = EpLimits {
 pub struct DevStack<R: Regs> {
     pub(crate) port: DevPort<R>,
     pub(crate) set: DescSet,
-    pub(crate) state: CoreState,
+    pub(crate) state: DevState,
     pub(crate) finished: Option<Stage>,
     pub(crate) request: Option<[u8; 8]>,
     pub(crate) transfer: Transfer,
@@ -82,7 +84,7 @@ impl<R: Regs + Drop> DevStack<R> {
         Ok(DevStack {
             port,
             set,
-            state: CoreState::new(),
+            state: UNCONFIGURED,
             finished: None,
             request: None,
             transfer: Transfer::Idle,
@@ -138,7 +140,7 @@ impl<R: Regs + Drop> DevStack<R> {
     fn forget(&mut self)
         ensures { self.new ≡ forgotten self.old }
     {
-        self.state = CoreState::new();
+        self.state = UNCONFIGURED;
         self.finished = None;
         self.request = None;
         self.transfer = Transfer::Idle;
@@ -159,6 +161,18 @@ impl<R: Regs + Drop> DevStack<R> {
         requires agrees { Agrees FS4 self.now }
         ensures { result ≡ state_of (core_of self.now) }
     {
-        self.state.copy()
+        self.core_state()
+    }
+
+    /// What requests are decided by.
+    pub(crate) fn core_state(&self) -> CoreState
+        requires holds { Holds FS4 self.now }
+        ensures { result ≡ state_of (core_of self.now) }
+    {
+        CoreState {
+            addr: self.state.addr,
+            configured: self.state.configured,
+            halted: self.port.halted_addresses(),
+        }
     }
 }

@@ -1,30 +1,31 @@
 //! A task run.
 ghost use Rattle.std.specs.Prelude.{◌≡◌, ◌+◌, ◌<◌, ◌≤◌, [], length, None, false, if◌then◌else◌};
 ghost use Rattle.usb_control.specs.Table.{choice};
+ghost use Rattle.usb_descriptor.specs.Set.{has_endpoint};
 ghost use Rattle.usb_descriptor.specs.Served.{AreServed};
+ghost use Rattle.device_machine.specs.Laws.{AreOf};
 ghost use Rattle.device_machine.specs.declared.control.Stage.TheVariants.{Sent};
 ghost use Rattle.device_machine.specs.declared.control.Side.TheVariants.{Wait};
-ghost use Rattle.device_machine.specs.Core.{Ending, Addressing, state_of, after_task, work_stage, with_request_worked, advanced, begun, staged, ending, with_side, with_data, refused, changed, with_halts, configured};
+ghost use Rattle.device_machine.specs.Core.{Ending, Addressing, state_of, after_task, work_stage, with_request_worked, advanced, begun, staged, ending, with_side, with_data, refused, changed, configured};
 ghost use Rattle.dwc2_regs.specs.declared.access.TheConstants.{FS4};
 ghost use Rattle.device_relation.specs.Relation.{IsSound, IsAddress};
 ghost use Rattle.device_relation.specs.Port.{port_of};
 ghost use Rattle.dwc2_device.specs.Driver.{joint, Has, Spends};
 ghost use Rattle.usbd_core.specs.Device.{core_of, port_in, address_of, tops, Fits, Rests, Agrees};
-ghost use Rattle.usbd_core.specs.Task.{IsFree, IsFreeFor, Needs, Leaves, GoesInOrder, with_endpoints};
+ghost use Rattle.usbd_core.specs.Task.{IsFree, IsFreeFor, Needs, Leaves, GoesInOrder, AreCores, with_session, with_endpoints, with_halt_ended_if, with_halts_ended};
 
 use crate::DevStack;
-use crate::halted::halted_after;
 use crate::transfer::Transfer;
-use arrayvec::ArrayVec;
 use device_machine::Stage;
 use dwc2_access::Regs;
 use dwc2_device::DevPort;
 use usb_control::{Effect, Found, find};
-use usb_descriptor::Endpoint;
+use usb_descriptor::{DescSet, Endpoint};
 use usb_packet::{Packet, Setup, setup_of};
 
 impl<R: Regs + Drop> DevStack<R> {
-    /// One task run, of at most 40 accesses: it works the stage that finished, and then the SETUP.
+    /// One task run, of at most 40 accesses: it works the stage that finished, and then the SETUP. The pipes have no note for it,
+    /// since the core never arms or starts one.
     pub fn task(&mut self)
         requires agrees { Agrees FS4 self.old }
         requires has { Has 400 self.old.port.bank }
@@ -106,7 +107,8 @@ impl<R: Regs + Drop> DevStack<R> {
         ensures core { core_of self.new ≡ begun self.old.set (core_of self.old) (choice self.old.set (state_of (core_of self.old)) setup.now) setup.now.length }
         ensures leaves { Leaves FS4 38 self.old self.new }
     {
-        match find(&self.set, &self.state, setup) {
+        let state = self.core_state();
+        match find(&self.set, &state, setup) {
             Found::Data(bytes) => {
                 if setup.length == 0 {
                     self.give_status();
@@ -183,22 +185,12 @@ impl<R: Regs + Drop> DevStack<R> {
         match effect {
             Effect::None | Effect::Address(_) => {}
             Effect::Configure(begins) => self.configure(begins),
-            Effect::Halt(_) => self.change_halts(effect),
-            Effect::Clear(_) => self.change_halts(effect),
-            Effect::ClearInterface(_) => self.change_halts(effect),
+            Effect::Halt(addr) => self.port.halt(addr),
+            Effect::Clear(addr) => self.port.clear_halt(addr),
+            Effect::ClearInterface(number) => {
+                clear_halts(&mut self.port, &self.set, self.set.endpoints(), number)
+            },
         }
-    }
-
-    /// The halts after an effect (USB 2.0, 9.4.1, 9.4.9 and 9.4.10).
-    fn change_halts(&mut self, effect: Effect)
-        requires fits { Fits FS4 self.old.set (port_in self.old) self.old.state self.old.transfer }
-        ensures core { core_of self.new ≡ with_halts self.old.set (core_of self.old) effect }
-        ensures set { self.new.set ≡ self.old.set }
-        ensures port { self.new.port ≡ self.old.port }
-        ensures fits { Fits FS4 self.new.set (port_in self.new) self.new.state self.new.transfer }
-    {
-        let halted = halted_after(&self.set, self.state.halted.as_slice(), effect);
-        self.state.halted = halted;
     }
 
     /// Ends the session, and begins a new one where it is told so (USB 2.0, 9.4.7).
@@ -209,7 +201,6 @@ impl<R: Regs + Drop> DevStack<R> {
     {
         renew(&mut self.port, self.set.endpoints(), begins);
         self.state.configured = begins;
-        self.state.halted = ArrayVec::new();
     }
 }
 
@@ -217,8 +208,9 @@ impl<R: Regs + Drop> DevStack<R> {
 fn renew<R: Regs + Drop>(port: &mut DevPort<R>, endpoints: &[Endpoint], begins: bool)
     requires sound { IsSound FS4 (joint port.old) }
     requires served { AreServed (tops FS4) endpoints.now }
+    requires cores { AreCores endpoints.now }
     requires has { Has 36 port.old.bank }
-    ensures port { port_of (joint port.new) ≡ with_endpoints (port_of (joint port.old)) (if begins then endpoints.now else []) }
+    ensures port { port_of (joint port.new) ≡ with_session (port_of (joint port.old)) (if begins then endpoints.now else []) }
     ensures sound { IsSound FS4 (joint port.new) }
     ensures order { GoesInOrder port.old.bank port.new.bank }
     ensures spends { Spends 36 port.old.bank port.new.bank }
@@ -232,8 +224,9 @@ fn renew<R: Regs + Drop>(port: &mut DevPort<R>, endpoints: &[Endpoint], begins: 
 /// Opens these endpoints, where none is open.
 fn open_all<R: Regs + Drop>(port: &mut DevPort<R>, endpoints: &[Endpoint])
     requires sound { IsSound FS4 (joint port.old) }
-    requires shut { port.old.software.open_ones ≡ [] }
+    requires shut { AreOf [] (port_of (joint port.old)).pipes }
     requires served { AreServed (tops FS4) endpoints.now }
+    requires cores { AreCores endpoints.now }
     requires has { Has 30 port.old.bank }
     ensures port { port_of (joint port.new) ≡ with_endpoints (port_of (joint port.old)) endpoints.now }
     ensures sound { IsSound FS4 (joint port.new) }
@@ -242,5 +235,35 @@ fn open_all<R: Regs + Drop>(port: &mut DevPort<R>, endpoints: &[Endpoint])
 {
     for endpoint in endpoints {
         port.open_ep(endpoint);
+    }
+}
+
+/// Ends the halts of those of some endpoints that an interface has (USB 2.0, 9.4.10).
+fn clear_halts<R: Regs + Drop>(
+    port: &mut DevPort<R>,
+    set: &DescSet,
+    endpoints: &[Endpoint],
+    number: u8,
+)
+    requires sound { IsSound FS4 (joint port.old) }
+    ensures port { port_of (joint port.new) ≡ with_halts_ended (has_endpoint set.now.config number) (port_of (joint port.old)) endpoints.now }
+    ensures sound { IsSound FS4 (joint port.new) }
+    ensures bank { port.new.bank ≡ port.old.bank }
+{
+    for endpoint in endpoints {
+        let named = set.has_endpoint(number, endpoint.addr);
+        clear_if(port, named, endpoint.addr);
+    }
+}
+
+/// Ends the halt of the endpoint at an address, where it is named.
+fn clear_if<R: Regs + Drop>(port: &mut DevPort<R>, named: bool, addr: u8)
+    requires sound { IsSound FS4 (joint port.old) }
+    ensures port { port_of (joint port.new) ≡ with_halt_ended_if named (port_of (joint port.old)) addr }
+    ensures sound { IsSound FS4 (joint port.new) }
+    ensures bank { port.new.bank ≡ port.old.bank }
+{
+    if named {
+        port.clear_halt(addr);
     }
 }

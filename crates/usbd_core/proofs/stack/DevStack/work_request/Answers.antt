@@ -1,7 +1,7 @@
 -- The SETUP that was noted is worked.
 use Rattle.std.proofs.Common.{ℕ, List, Option, ap, sym, ◌∙◌}
 use Rattle.device_machine.specs.Core.{Core, with_request_worked}
-use Rattle.device_relation.specs.Relation.{abstract}
+use Rattle.device_relation.specs.Relation.{abstract, abstract_pipes}
 use Rattle.dwc2_device.specs.Driver.{joint}
 use Rattle.usbd_core.specs.Device.{Device, transfer_of, core_of}
 use Rattle.usbd_core.proofs.Notes.{worked_agrees}
@@ -13,8 +13,8 @@ returns-in-Some-clause-core g c =
     let s = c.self.inside in
     let with : Option (List ℕ) → Core = λ r. record {
       bus = abstract (joint s.port);
+      pipes = abstract_pipes (joint s.port);
       session = s.state.configured;
-      halted = s.state.halted.items;
       finished = s.finished;
       request = r;
       transfer = transfer_of s.transfer s.stage;
