@@ -1,0 +1,5 @@
+pub mod Behind
+pub mod Comes
+pub mod Counts
+pub mod Tells
+pub mod Few

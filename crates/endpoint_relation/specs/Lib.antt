@@ -1,0 +1,16 @@
+pub mod OutWords
+pub mod OutRelation
+pub mod OutSteps
+pub mod OutLaws
+pub mod OutTable
+pub mod OutExamples
+pub mod OutEvents
+pub mod OutAccesses
+pub mod InWords
+pub mod InRelation
+pub mod InSteps
+pub mod InLaws
+pub mod InTable
+pub mod InPackets
+pub mod InRuns
+pub mod InExamples
