@@ -328,7 +328,7 @@ enabled_lasts x = record {
   control = inl refl;
   clear = inr (λ e word h. h);
   size = inr (λ e h. h);
-  look = λ e word h. still e.enabled (not (is_set word DIEPINT_XFRC)) h;
+  look = λ e word h. still e.enabled (not (is_set word DIEPINT_XFRC && not e.naks)) h;
 }
 
 word_refused : (o : Order) (x word : ℕ) → x ≤ 11 → (in_of o x).enabled ≡ false → are_ordered o (writes (fifo x) word ∷ []) ≡ false

@@ -111,6 +111,9 @@ pub record StaleXfrc : Type 0 where
   pub out : are_runs unused (arm ∷ (r 0x20 0x00060000 ∷ []) ∷ arm ∷ []) ≡ false
   pub out_read : are_runs unused (arm ∷ (r 0xb08 1 ∷ w 0xb08 2 ∷ []) ∷ arm ∷ []) ≡ false
   pub of_another : are_runs unused (arm_2 ∷ (r 0x20 0x00060002 ∷ w 0xb08 1 ∷ []) ∷ arm_2 ∷ []) ≡ false
+  -- XFRC of the load before is read once the next is enabled, and cleared once that one may be acknowledged
+  pub read_late : is_run unused (w 0x910 0x00080000 ∷ w 0x900 0x88000000 ∷ r 0x908 1 ∷ w 0x900 0x04000000 ∷ w 0x908 1 ∷ []) ≡ false
+  pub blind : are_runs unused (load ∷ (w 0x910 0x00080000 ∷ w 0x900 0x88000000 ∷ r 0x908 1 ∷ w 0x908 1 ∷ w 0x900 0x04000000 ∷ []) ∷ (r 0x908 0 ∷ w 0x908 1 ∷ []) ∷ []) ≡ false
 
 -- d. an access behind the CNAK of a load
 pub record BehindCnak : Type 0 where
@@ -136,3 +139,14 @@ pub record EndedReset : Type 0 where
   pub unread : is_run unused wakes ≡ false
   pub read_before : are_runs unused ((r 0x14 0 ∷ []) ∷ wakes ∷ []) ≡ false
   pub unserved : is_run unused (r 0x14 0x1000 ∷ r 0x20 0 ∷ []) ≡ false
+  -- XFRC that was read is of the load before
+  pub stale : are_runs unused ((w 0x910 0x00080005 ∷ w 0x900 0x88000000 ∷ r 0x908 1 ∷ []) ∷ (r 0x14 0x3000 ∷ wakes) ∷ []) ≡ false
+
+-- f. a FIFO that is emptied while its endpoint is enabled
+pub record EmptiedEarly : Type 0 where
+  pub answers : are_runs unused (load_1 ∷ (w 0x10 0x60 ∷ []) ∷ []) ≡ false
+  pub before : are_runs unused (load_1 ∷ (w 0x10 0x60 ∷ w 0x920 0x48000000 ∷ w 0x928 3 ∷ []) ∷ []) ≡ false
+  pub loading : is_run unused (w 0x930 0x0010000c ∷ w 0x920 0x88488008 ∷ w 0x10 0x60 ∷ []) ≡ false
+  pub all : are_runs unused (load_1 ∷ (w 0x10 0x420 ∷ []) ∷ []) ≡ false
+  pub all_of_0 : are_runs unused (load ∷ (w 0x10 0x420 ∷ []) ∷ []) ≡ false
+  pub at_a_reset : are_runs unused (load_1 ∷ (r 0x14 0x3000 ∷ w 0x10 0x420 ∷ disabled ++ wakes) ∷ []) ≡ false

@@ -7,13 +7,14 @@
 --    that no acknowledgement is lost and none is taken for the next one; of an OUT endpoint where the driver saw it.
 -- d. CNAK is the last access of a run to an IN endpoint that it loads.
 -- e. USBRST is cleared where it was read as 1, once no endpoint is enabled, by the last access of the run.
+-- f. A transmit FIFO is emptied only once its endpoint is disabled.
 use Rattle.std.specs.Prelude.{ℕ, zero, suc, ◌==◌, ◌&&◌, ◌||◌, not, Bool, true, false, if◌then◌else◌, List, [], ◌∷◌, Option, Some, None}
 use Rattle.dwc2_regs.specs.declared.access.Access.{Access}
 use Rattle.dwc2_regs.specs.declared.bits.Field.{Field}
-use Rattle.dwc2_regs.specs.declared.TheConstants.{GINTSTS_USBRST, GRXSTSP_NUMBER, GRXSTSP_STATUS, OUT_DONE, DIEPCTL_CNAK, DIEPCTL_SNAK, DIEPCTL_EPDIS, DIEPCTL_EPENA}
+use Rattle.dwc2_regs.specs.declared.TheConstants.{GINTSTS_USBRST, GRSTCTL_TXFFLSH, GRSTCTL_TXFNUM, GRXSTSP_NUMBER, GRXSTSP_STATUS, OUT_DONE, DIEPCTL_CNAK, DIEPCTL_SNAK, DIEPCTL_EPDIS, DIEPCTL_EPENA}
 use Rattle.dwc2_regs.specs.declared.TheConstants.{DIEPINT_XFRC, DOEPCTL_EPDIS, DOEPCTL_EPENA, DOEPINT_XFRC}
 use Rattle.dwc2_regs.specs.Field.{field_of}
-use Rattle.dwc2_regs.specs.Register.{Register, register_at, gintsts, grxstsp, diepctl, diepint, dieptsiz, dtxfsts, doepctl, doepint, doeptsiz, fifo}
+use Rattle.dwc2_regs.specs.Register.{Register, register_at, grstctl, gintsts, grxstsp, diepctl, diepint, dieptsiz, dtxfsts, doepctl, doepint, doeptsiz, fifo}
 
 -- whether a field of one bit is 1
 abbrev pub is_set : ℕ → Field → Bool
@@ -23,7 +24,7 @@ is_set word field = field_of word field == 1
 pub record InOrder : Type 0 where
   -- DIEPTSIZx was written, and EPENA not since
   pub sized : Bool
-  -- EPENA was written, and since then neither EPDIS, nor was XFRC read
+  -- EPENA was written, and since then neither EPDIS, nor was XFRC read where a packet could be answered
   pub enabled : Bool
   -- SNAK was written, and CNAK not since
   pub naks : Bool
@@ -110,9 +111,9 @@ in_interrupts_fit e word = not e.loaded && not (is_set word DIEPINT_XFRC && may_
 abbrev pub in_cleared : InOrder → ℕ → InOrder
 in_cleared e word = record e { clear = e.clear || is_set word DIEPINT_XFRC }
 
--- a read of DIEPINTx: with XFRC the endpoint is disabled
+-- a read of DIEPINTx: with XFRC the endpoint is disabled. While it answers NAK, XFRC is of the transfer before
 abbrev pub in_read : InOrder → ℕ → InOrder
-in_read e word = record e { enabled = e.enabled && not (is_set word DIEPINT_XFRC) }
+in_read e word = record e { enabled = e.enabled && not (is_set word DIEPINT_XFRC && not e.naks) }
 
 -- OUT endpoints.
 
@@ -160,10 +161,24 @@ abbrev pub woken_by : Order → ℕ → Order
 woken_by o word =
     record o { reset = o.reset && not (is_set word GINTSTS_USBRST); woken = o.woken || is_set word GINTSTS_USBRST }
 
+-- Emptying transmit FIFOs.
+
+-- no IN endpoint up to this number is enabled
+abbrev pub no_in_enabled : ℕ → Order → Bool
+no_in_enabled zero o = not o.in0.enabled
+no_in_enabled (suc n) o = not (o.ins n).enabled && no_in_enabled n o
+
+-- GRSTCTL with TXFFLSH empties the FIFO with that number, and all of them where the number is 16
+abbrev pub flush_fits : Order → ℕ → Bool
+flush_fits o word =
+    let number = field_of word GRSTCTL_TXFNUM in
+    not (is_set word GRSTCTL_TXFFLSH) || (if number == 16 then no_in_enabled last_endpoint o else not (in_of o number).enabled)
+
 -- Each access. Registers that aren't named are free.
 
 abbrev pub write_fits : Order → Register → ℕ → Bool
 write_fits o gintsts word = wake_fits o word
+write_fits o grstctl word = flush_fits o word
 write_fits o (diepctl x) word = in_control_fits (in_of o x) word
 write_fits o (diepint x) word = in_interrupts_fit (in_of o x) word
 write_fits o (dieptsiz x) word = not (in_of o x).loaded

@@ -1,6 +1,6 @@
 //! Laws of the order of accesses. The functions do nothing.
 ghost use Rattle.access_order.specs.Laws.{Splits, WakesLast, EnablingsWantSizes, WordsWantEnabling, AnsweringWantsClear};
-ghost use Rattle.access_order.specs.Examples.{InOrderLists, Unsized, StrayWords, StaleXfrc, BehindCnak, EndedReset};
+ghost use Rattle.access_order.specs.Examples.{InOrderLists, Unsized, StrayWords, StaleXfrc, BehindCnak, EndedReset, EmptiedEarly};
 
 /// A list of accesses is in order exactly where its front is, and the rest is behind it.
 pub fn lists_split()
@@ -56,4 +56,9 @@ pub fn cnak_is_last()
 /// A reset is ended while an endpoint is enabled, not by the last access, unread, or not at all.
 pub fn reset_ends_last()
     ensures { EndedReset }
+{}
+
+/// A transmit FIFO is emptied while its endpoint is enabled.
+pub fn fifos_empty_behind_disabling()
+    ensures { EmptiedEarly }
 {}

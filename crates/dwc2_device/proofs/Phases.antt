@@ -1,11 +1,12 @@
 -- The driver's accesses, a few at a time: they are in order, and lead from one phase to another.
 use Rattle.std.proofs.Common.{◌≡◌, ℕ, zero, suc, Bool, true, false, List, [], ◌∷◌, ◌++◌, Some, refl, ap, sym, ◌∙◌, append_assoc, subst, arith}
-use Rattle.std.specs.Prelude.{◌&&◌, ◌==◌, if◌then◌else◌}
-use Rattle.dwc2_regs.specs.declared.TheConstants.{GINTSTS_USBRST, GRXSTSP_STATUS, GRXSTSP_NUMBER, OUT_DONE, DIEPCTL_EPENA, DIEPINT_XFRC, DOEPCTL_EPENA}
+use Rattle.std.specs.Prelude.{◌&&◌, ◌||◌, not, ◌==◌, if◌then◌else◌}
+use Rattle.std.proofs.lemmas.Bool.{false≢true}
+use Rattle.dwc2_regs.specs.declared.TheConstants.{GINTSTS_USBRST, GRSTCTL_TXFFLSH, GRSTCTL_TXFNUM, GRXSTSP_STATUS, GRXSTSP_NUMBER, OUT_DONE, DIEPCTL_EPENA, DIEPINT_XFRC, DOEPCTL_EPENA}
 use Rattle.dwc2_regs.specs.declared.access.Access.{Access}
 use Rattle.dwc2_regs.specs.Field.{field_of}
-use Rattle.dwc2_regs.specs.Register.{Register, register_at, diepctl, diepint, doepctl, doepint}
-use Rattle.access_order.specs.Order.{Order, InOrder, OutOrder, is_set, after, write_fits, after_write, are_ordered, order_after, in_controlled, in_cleared, out_controlled, out_cleared, out_ended, with_out, out_of, none_enabled}
+use Rattle.dwc2_regs.specs.Register.{Register, register_at, grstctl, diepctl, diepint, doepctl, doepint}
+use Rattle.access_order.specs.Order.{Order, InOrder, OutOrder, is_set, after, write_fits, after_write, are_ordered, order_after, in_controlled, in_cleared, out_controlled, out_cleared, out_ended, with_out, out_of, in_of, none_enabled, no_in_enabled, last_endpoint, may_answer}
 use Rattle.dwc2_device.specs.Phase.{Phase, quiet, acked, popped, loading, loaded, found, closed, shut, over, Runs, Quiet, Popped, Loading, Loaded, Found, Closed, Is, Kept, Keeps}
 use Rattle.access_order.proofs.Lists.{splits}
 
@@ -136,13 +137,20 @@ looked_leads word o q =
     let none = q.loaded in
     record { ordered = grind arith; state = same_quiet o (after o (r 0x908 word)).in0 q.loaded q }
 
+-- XFRC was read: the endpoint is disabled, or answers NAK
+silent : (xfrc enabled naks : Bool) → xfrc ≡ true → ((enabled && not (xfrc && not naks)) && not naks) ≡ false
+silent true true true e = refl
+silent true true false e = refl
+silent true false naks e = refl
+silent false enabled naks e = absurd (false≢true e)
+
 pub acked_leads : (word : ℕ) (o : Order) → is_set word DIEPINT_XFRC ≡ true → Quiet o → Leads o (r 0x908 word ∷ []) acked
 acked_leads word o e q =
     let woken = q.runs.woken in
     let none = q.loaded in
-    record { ordered = grind arith; state = (same_quiet o (after o (r 0x908 word)).in0 q.loaded q, grind arith) }
+    record { ordered = grind arith; state = (same_quiet o (after o (r 0x908 word)).in0 q.loaded q, silent (is_set word DIEPINT_XFRC) o.in0.enabled o.in0.naks e) }
 
-pub noted_leads : (o : Order) → Quiet o × (o.in0.enabled ≡ false) → Leads o (w 0x908 1 ∷ []) quiet
+pub noted_leads : (o : Order) → Quiet o × (may_answer o.in0 ≡ false) → Leads o (w 0x908 1 ∷ []) quiet
 noted_leads o h =
     let woken = h.0.runs.woken in
     let none = h.0.loaded in
@@ -292,8 +300,29 @@ closed_leads o q =
       };
     }
 
+at_register : (o : Order) (off word : ℕ) (reg : Register) (to : Phase) → register_at off ≡ Some reg → o.woken ≡ false → write_fits o reg word ≡ true → Is to (after_write o reg word)
+    → Leads o (w off word ∷ []) to
+at_register o off word reg to e woken h s = record { ordered = rw (e) (rw (woken) (rw (h) refl)); state = rw (e) s }
+
+-- no IN endpoint is enabled, so that every FIFO may be emptied
+no_in : (k : ℕ) (o : Order) → Closed o → no_in_enabled k o ≡ true
+no_in zero o c = rw (c.in0) refl
+no_in (suc n) o c = rw (c.found.runs.ins n) (no_in n o c)
+
+in_off : (x : ℕ) (o : Order) → Closed o → (in_of o x).enabled ≡ false
+in_off zero o c = c.in0
+in_off (suc n) o c = c.found.runs.ins n
+
+may_empty : (flushes all every one : Bool) → every ≡ true → one ≡ false → (not flushes || (if all then every else not one)) ≡ true
+may_empty true true every one e k = e
+may_empty true false every one e k = ap not k
+may_empty false all every one e k = refl
+
 pub flushed_leads : (word : ℕ) (o : Order) → Closed o → Leads o (w 0x10 word ∷ []) closed
-flushed_leads word o c = let woken = c.found.runs.woken in record { ordered = grind arith; state = c }
+flushed_leads word o c =
+    let number = field_of word GRSTCTL_TXFNUM in
+    let fits = may_empty (is_set word GRSTCTL_TXFFLSH) (number == 16) (no_in_enabled last_endpoint o) (in_of o number).enabled (no_in last_endpoint o c) (in_off number o c) in
+    at_register o 0x10 word grstctl closed refl c.found.runs.woken fits c
 
 pub shut_leads : (o : Order) → Closed o → Leads o (w 0x908 3 ∷ w 0xb08 0xb ∷ []) shut
 shut_leads o c =
@@ -330,10 +359,6 @@ woken_leads o h =
     }
 
 -- Endpoints other than 0.
-
-at_register : (o : Order) (off word : ℕ) (reg : Register) (to : Phase) → register_at off ≡ Some reg → o.woken ≡ false → write_fits o reg word ≡ true → Is to (after_write o reg word)
-    → Leads o (w off word ∷ []) to
-at_register o off word reg to e woken h s = record { ordered = rw (e) (rw (woken) (rw (h) refl)); state = rw (e) s }
 
 -- the state with another IN endpoint
 abbrev in_at : Order → ℕ → InOrder → Order

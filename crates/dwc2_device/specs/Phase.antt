@@ -3,12 +3,12 @@ use Rattle.std.specs.Prelude.{◌≡◌, ◌≢◌, ℕ, Bool, true, false, List
 use Rattle.dwc2_regs.specs.declared.TheConstants.{GRXSTSP_STATUS, OUT_DONE}
 use Rattle.dwc2_regs.specs.declared.access.Access.{Access}
 use Rattle.dwc2_regs.specs.Field.{field_of}
-use Rattle.access_order.specs.Order.{Order, are_ordered, order_after}
+use Rattle.access_order.specs.Order.{Order, are_ordered, order_after, may_answer}
 
 pub data Phase : Type 0 where
   -- nothing was loaded in this run, and no reset found
   quiet : Phase
-  -- XFRC of endpoint 0 was read
+  -- XFRC of endpoint 0 was read, which answers with no packet now
   acked : Phase
   -- this word was popped from the receive FIFO
   popped : ℕ → Phase
@@ -67,7 +67,7 @@ pub record Over (o : Order) : Type 0 where
 
 abbrev pub Is : Phase → Order → Type 0
 Is quiet o = Quiet o
-Is acked o = Quiet o × (o.in0.enabled ≡ false)
+Is acked o = Quiet o × (may_answer o.in0 ≡ false)
 Is (popped word) o = Popped o word
 Is loading o = Loading o
 Is loaded o = Loaded o
