@@ -1,14 +1,17 @@
 -- A packet on one endpoint leaves the others, and every pipe is served.
-use Rattle.std.proofs.Common.{◌≡◌, ◌≢◌, ℕ, zero, suc, List, [], ◌∷◌, length, map, Bool, true, false, refl, ap, sym, ◌∙◌}
-use Rattle.std.specs.Prelude.{if◌then◌else◌, slice_index_or}
+use Rattle.std.proofs.Common.{◌≡◌, ◌≢◌, ℕ, zero, suc, ◌<◌, ◌≤◌, List, [], ◌∷◌, length, map, Bool, true, false, refl, ap, sym, ◌∙◌, arith}
+use Rattle.std.specs.Prelude.{if◌then◌else◌, slice_index_or, nat_le, ◌&&◌, not}
+use Rattle.std.proofs.lemmas.Bool.Decides.{nat_tests}
+use Rattle.usb_packet.specs.declared.bus.BusAnswer.TheVariants as answers
+use Rattle.usb_descriptor.specs.Set.{is_core}
 use Rattle.std.proofs.lemmas.List.{get_or-set_same, get_or-set_other}
 use Rattle.device_pipe.specs.OutPipe as out
 use Rattle.device_pipe.specs.OutPipe.{OutPipe}
 use Rattle.device_pipe.specs.InPipe as inward
 use Rattle.device_pipe.specs.InPipe.{InPipe}
-use Rattle.device_machine.specs.Pipes.{Pipes, OutSlot, InSlot, no_out_slot, no_in_slot, out_slot, in_slot, with_out_slot, with_in_slot, out_hears, in_hears, out_slot_after, in_slot_after, out_slot_after_irq, in_slot_after_irq, pipes_after_irq, out_slot_after_task, in_slot_after_task, pipes_after_task}
+use Rattle.device_machine.specs.Pipes.{Pipes, OutSlot, InSlot, is_out_open, unless_core, no_out_slot, no_in_slot, out_slot, in_slot, with_out_slot, with_in_slot, out_hears, in_hears, out_slot_after, in_slot_after, out_slot_after_irq, in_slot_after_irq, pipes_after_irq, out_slot_after_task, in_slot_after_task, pipes_after_task}
 use Rattle.device_machine.specs.Bus.{Bus, hears, hears_packet}
-use Rattle.device_machine.specs.Laws.{Apart, Moves, Serves}
+use Rattle.device_machine.specs.Laws.{Apart, Moves, Answers, AnswersToken, Serves}
 
 pub out_other : (p : Pipes) (m n : ℕ) (x : OutSlot) → n ≢ m → out_slot (with_out_slot p m x) n ≡ out_slot p n
 out_other p zero n x ne = refl
@@ -73,7 +76,50 @@ moves bus p = record {
       ∙ ap (λ (y : InSlot). y.pipe) (get_or-set_same p.ins n x no_in_slot few) ∙ in_moved s (in_hears s) (inward.after_token s.pipe ok) open_;
   unheard = λ addr ep toggle packet ok deaf. ap (λ b. if b then with_out_slot p ep (out_slot_after (out_slot p ep) toggle packet) else p) deaf;
   unheard_token = λ addr ep ok deaf. ap (λ b. if b then with_in_slot p ep (in_slot_after (in_slot p ep) ok) else p) deaf;
+  setup = λ addr bytes ok. refl;
+  reset = refl;
 }
+
+-- What it answers.
+
+fits : (bytes size : ℕ) → bytes ≤ size → nat_le bytes size ≡ true
+fits bytes size h = grind (arith, nat_tests)
+
+too_long : (bytes size : ℕ) → size < bytes → nat_le bytes size ≡ false
+too_long bytes size h = grind (arith, nat_tests)
+
+silent : {A : Type 0} (a b : Bool) (x none : A) → b ≡ false → (if a && b then x else none) ≡ none
+silent true b x none e = rw (e) refl
+silent false b x none e = refl
+
+of_core : {A : Type 0} (a b c : Bool) (nak x none : A) → a ≡ true → b ≡ true → c ≡ true → (if a && b then (if c then nak else x) else none) ≡ nak
+of_core a b c nak x none e k l = rw (e) (rw (k) (rw (l) refl))
+
+of_class : {A : Type 0} (a b c : Bool) (nak x none : A) → a ≡ true → b ≡ true → c ≡ false → (if a && b then (if c then nak else x) else none) ≡ x
+of_class a b c nak x none e k l = rw (e) (rw (k) (rw (l) refl))
+
+pub answers_are : (s : OutSlot) (bytes : ℕ) → Answers s bytes
+answers_are s bytes =
+    let a = is_out_open s.pipe.phase in
+    let b = nat_le bytes s.endpoint.size in
+    let c = is_core s.endpoint.owner in
+    let x = out.out_answer s.pipe in
+    record {
+      shut = λ shut. ap (λ y. if y && b then unless_core s.endpoint.owner x else answers.NoAnswer) shut;
+      long = λ long. silent a b (unless_core s.endpoint.owner x) answers.NoAnswer (too_long bytes s.endpoint.size long);
+      core = λ open_ few is. of_core a b c answers.Nak x answers.NoAnswer open_ (fits bytes s.endpoint.size few) is;
+      pipe = λ open_ few is. of_class a b c answers.Nak x answers.NoAnswer open_ (fits bytes s.endpoint.size few) is;
+    }
+
+pub answers_token : (s : InSlot) → AnswersToken s
+answers_token s =
+    let c = is_core s.endpoint.owner in
+    let x = inward.in_answer s.pipe in
+    record {
+      shut = λ shut. ap (λ y. if not y then unless_core s.endpoint.owner x else answers.NoAnswer) shut;
+      core = λ open_ is. of_core true (not (inward.is_closed s.pipe.phase)) c answers.Nak x answers.NoAnswer refl (ap not open_) is;
+      pipe = λ open_ is. of_class true (not (inward.is_closed s.pipe.phase)) c answers.Nak x answers.NoAnswer refl (ap not open_) is;
+    }
 
 mapped : {A : Type 0} (f : A → A) (xs : List A) (n : ℕ) (none : A) → f none ≡ none → slice_index_or (map f xs) n none ≡ f (slice_index_or xs n none)
 mapped f [] n none e = sym e

@@ -1,16 +1,17 @@
 -- What holds at every moment of a run.
-use Rattle.std.specs.Prelude.{◌≡◌, ◌≢◌, ◌⊎◌, ℕ, suc, ◌+◌, ◌<◌, List, [], ◌∷◌, ◌==◌, Bool, true, false, length, Some, None, if◌then◌else◌}
+use Rattle.std.specs.Prelude.{◌≡◌, ◌≢◌, ◌⊎◌, ℕ, suc, ◌+◌, ◌<◌, ◌≤◌, List, [], ◌∷◌, ◌==◌, Bool, true, false, length, Some, None, if◌then◌else◌}
 use Rattle.std.specs.List.{list_any}
 use Rattle.usb_descriptor.specs.declared.endpoint.Endpoint.{Endpoint}
-use Rattle.usb_descriptor.specs.Set.{Set, is_addressed}
+use Rattle.usb_descriptor.specs.Set.{Set, is_addressed, is_core}
 use Rattle.usb_packet.specs.declared.bus.Toggle.{Toggle}
+use Rattle.usb_packet.specs.declared.bus.BusAnswer.TheVariants as answers
 use Rattle.usb_packet.specs.declared.bus.BusEvent.{BusEvent}
 use Rattle.usb_packet.specs.declared.bus.BusEvent.TheVariants as event
 use Rattle.usb_control.specs.declared.state.Effect.TheVariants as effect
 use Rattle.usb_control.specs.Table.{is_halted}
 use Rattle.device_pipe.specs.OutPipe as out
 use Rattle.device_pipe.specs.InPipe as inward
-use Rattle.device_machine.specs.Pipes.{Pipes, top_number, no_endpoint, out_slot, in_slot, is_out_open, out_hears, in_hears, is_open_at, pipes_unopened, pipes_after_irq, pipes_after_task}
+use Rattle.device_machine.specs.Pipes.{Pipes, OutSlot, InSlot, out_slot_answer, in_slot_answer, top_number, no_endpoint, out_slot, in_slot, is_out_open, out_hears, in_hears, is_open_at, pipes_unopened, pipes_after_irq, pipes_after_task}
 use Rattle.device_machine.specs.Bus.{Bus, hears, hears_packet, pipes_after, finished_stage}
 use Rattle.device_machine.specs.Core.{Core, state_of, after_bus, new_address, after_irq, with_control_worked, after_task, changed}
 use Rattle.device_machine.specs.Session.{opened}
@@ -54,6 +55,22 @@ pub record Moves (bus : Bus) (pipes : Pipes) : Type 0 where
       → (in_slot (pipes_after bus pipes (event.In addr (suc n) ok)) (suc n)).pipe ≡ inward.after_token (in_slot pipes (suc n)).pipe ok
   pub unheard : (addr ep : ℕ) (toggle : Toggle) (packet : List ℕ) (ok : Bool) → hears_packet bus addr ok ≡ false → pipes_after bus pipes (event.Out addr ep toggle packet ok) ≡ pipes
   pub unheard_token : (addr ep : ℕ) (ok : Bool) → hears bus addr ≡ false → pipes_after bus pipes (event.In addr ep ok) ≡ pipes
+  -- a SETUP is endpoint 0's, and a reset waits for the handler run that serves it
+  pub setup : (addr : ℕ) (bytes : List ℕ) (ok : Bool) → pipes_after bus pipes (event.Setup addr bytes ok) ≡ pipes
+  pub reset : pipes_after bus pipes event.Reset ≡ pipes
+
+-- What an endpoint other than 0 answers where the device hears the packet: nothing where it isn't open, or the packet is longer than
+-- its own; NAK where it is the core's, halted or not; else what its pipe answers (8.4.5).
+pub record Answers (slot : OutSlot) (bytes : ℕ) : Type 0 where
+  pub shut : is_out_open slot.pipe.phase ≡ false → out_slot_answer slot bytes ≡ answers.NoAnswer
+  pub long : slot.endpoint.size < bytes → out_slot_answer slot bytes ≡ answers.NoAnswer
+  pub core : is_out_open slot.pipe.phase ≡ true → bytes ≤ slot.endpoint.size → is_core slot.endpoint.owner ≡ true → out_slot_answer slot bytes ≡ answers.Nak
+  pub pipe : is_out_open slot.pipe.phase ≡ true → bytes ≤ slot.endpoint.size → is_core slot.endpoint.owner ≡ false → out_slot_answer slot bytes ≡ out.out_answer slot.pipe
+
+pub record AnswersToken (slot : InSlot) : Type 0 where
+  pub shut : inward.is_closed slot.pipe.phase ≡ true → in_slot_answer slot ≡ answers.NoAnswer
+  pub core : inward.is_closed slot.pipe.phase ≡ false → is_core slot.endpoint.owner ≡ true → in_slot_answer slot ≡ answers.Nak
+  pub pipe : inward.is_closed slot.pipe.phase ≡ false → is_core slot.endpoint.owner ≡ false → in_slot_answer slot ≡ inward.in_answer slot.pipe
 
 -- A handler run serves every pipe, and a task takes the note of every pipe.
 pub record Serves (pipes : Pipes) : Type 0 where
