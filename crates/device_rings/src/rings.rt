@@ -141,9 +141,9 @@ impl DevRings {
         ensures { self.new ≡ with_ring_at self.old ep (emptied (ring_at self.old ep)) }
     {
         if ep >= IN {
-            self.clear_in(ep - IN);
+            self.drop_in(ep - IN);
         } else {
-            self.clear_out(ep);
+            self.drop_out(ep);
         }
     }
 
@@ -169,10 +169,10 @@ impl DevRings {
         self.ins[place(number)].peek_word(at, n)
     }
 
-    /// For the handler: drops the n oldest bytes of the ring of an IN endpoint's number, which must be there.
-    #[tactic(auto, using(crate::proofs::Numbered::from_one, crate::proofs::Numbered::to_last))]
+    /// For the handler: drops the n oldest bytes of the ring of an IN endpoint's number, which must be there. The number is 1
+    /// to 3.
     pub fn commit(&mut self, number: u8, n: u16)
-        requires named { IsRing (in_ring self.old number) }
+        requires numbered { (1 ≤ number) × (number ≤ 3) }
         requires there { n ≤ length (in_ring self.old number).bytes }
         ensures { self.new ≡ with_in_ring self.old number (without_first (in_ring self.old number) n) }
     {
@@ -256,8 +256,24 @@ impl DevRings {
         self.outs[place(number)].pop_bytes(buf)
     }
 
+    /// Drops all bytes of the ring of an OUT endpoint's number, which is 1 to 3.
+    pub fn clear_out(&mut self, number: u8)
+        requires numbered { (1 ≤ number) × (number ≤ 3) }
+        ensures { self.new ≡ with_out_ring self.old number (emptied (out_ring self.old number)) }
+    {
+        self.outs[place(number)].clear();
+    }
+
+    /// Drops all bytes of the ring of an IN endpoint's number, which is 1 to 3.
+    pub fn clear_in(&mut self, number: u8)
+        requires numbered { (1 ≤ number) × (number ≤ 3) }
+        ensures { self.new ≡ with_in_ring self.old number (emptied (in_ring self.old number)) }
+    {
+        self.ins[place(number)].clear();
+    }
+
     #[tactic(auto, using(crate::proofs::Numbered::from_one, crate::proofs::Numbered::to_last))]
-    fn clear_out(&mut self, number: u8)
+    fn drop_out(&mut self, number: u8)
         requires { IsRing (out_ring self.old number) }
         ensures { self.new ≡ with_out_ring self.old number (emptied (out_ring self.old number)) }
     {
@@ -265,7 +281,7 @@ impl DevRings {
     }
 
     #[tactic(auto, using(crate::proofs::Numbered::from_one, crate::proofs::Numbered::to_last))]
-    fn clear_in(&mut self, number: u8)
+    fn drop_in(&mut self, number: u8)
         requires { IsRing (in_ring self.old number) }
         ensures { self.new ≡ with_in_ring self.old number (emptied (in_ring self.old number)) }
     {

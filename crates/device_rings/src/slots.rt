@@ -181,8 +181,7 @@ impl InSlot {
 
     /// Drops the n oldest bytes, which must be there.
     pub fn commit(&mut self, n: u16)
-        requires named { IsRing self.old }
-        requires there { n ≤ length self.old.bytes }
+        requires { n ≤ length self.old.bytes }
         ensures { self.new ≡ without_first self.old n }
     {
         if let Some(ring) = &mut self.ring {

@@ -65,7 +65,10 @@ fn peek_four(rings: &DevRings, number: u8) -> u32 {
 }
 
 fn commit_two(rings: &mut DevRings, number: u8) {
-    if number < 0x80 && rings.has_ring(0x80 + number) && rings.held(0x80 + number) >= 2 {
+    if (1..=3).contains(&number)
+        && rings.has_ring(0x80 + number)
+        && rings.held(0x80 + number) >= 2
+    {
         rings.commit(number, 2);
     }
 }

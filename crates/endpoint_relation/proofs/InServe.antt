@@ -41,7 +41,7 @@ xfrc_shows number end = shows end.xfrc end.epdisd (txfe number end)
 
 -- all that was loaded is acknowledged
 
-found_packets : (s : InEndpoint) (ring : List ℕ) (l : ℕ) → IsTransfer (record s { state = Running; loaded = suc l }) ring
+pub found_packets : (s : InEndpoint) (ring : List ℕ) (l : ℕ) → IsTransfer (record s { state = Running; loaded = suc l }) ring
     → packets_left (record s { state = Running; loaded = 0; sent = min s.bytes (s.sent + suc l * s.endpoint.size); left = s.left - suc l }) ring ≡ drop (suc l) (packets_left s ring)
 found_packets s ring l h =
     let size = s.endpoint.size in

@@ -1,11 +1,13 @@
 //! An OUT endpoint other than 0: what the driver keeps of it, and laws of the relation. The functions do nothing.
+ghost use Rattle.std.specs.Prelude.{◌≡◌, false};
+ghost use Rattle.endpoint_relation.specs.OutRelation.{not_open};
 ghost use Rattle.endpoint_relation.specs.OutLaws.{OutPacketKeeps, OutMoveKeeps, OutMoveFits, OutIdleKeeps, OutResetKeeps, OutNoteKeeps, OutReadKeeps, OutDropKeeps, OutArmKeeps, OutHaltKeeps, OutClearKeeps, OutOpenKeeps, OutCloseKeeps, OutStarts};
 ghost use Rattle.endpoint_relation.specs.OutTable.{OutPuts, OutWritesMeet, OutBusMeets, OutLiesApart, OutPopsWhole};
 ghost use Rattle.endpoint_relation.specs.OutEvents.{OutEventsKeep, OutEventsAnswer};
 ghost use Rattle.endpoint_relation.specs.OutAccesses.{OutAccessesServe, OutAccessesLeave, OutPopsLeaveControl, OutResetServes};
 ghost use Rattle.endpoint_relation.specs.OutExamples.{OutWordsWorked, OutSizesSay, OutRegistersWorked, OutAnswersWorked};
 
-use usb_descriptor::Endpoint;
+use usb_descriptor::{Endpoint, EpKind, Owner};
 
 /// What an OUT endpoint does, as far as the driver knows. That a packet landed the driver learns in its next handler run.
 #[derive(Clone, Copy, Debug, PartialEq, Eq)]
@@ -32,6 +34,32 @@ pub struct OutEndpoint {
     pub halted: bool,
     /// A packet that was dropped with the pipe lies in the receive FIFO.
     pub over: bool,
+}
+
+impl OutEndpoint {
+    /// What is kept of an endpoint that isn't open.
+    pub fn unused() -> OutEndpoint
+        ensures { result ≡ not_open false }
+    {
+        OutEndpoint::shut(false)
+    }
+
+    /// The same, where a packet that was dropped may lie in the receive FIFO.
+    pub fn shut(over: bool) -> OutEndpoint
+        ensures { result ≡ not_open over }
+    {
+        OutEndpoint {
+            endpoint: Endpoint {
+                addr: 0,
+                kind: EpKind::Bulk,
+                size: 0,
+                owner: Owner::Core,
+            },
+            state: OutState::Closed,
+            halted: false,
+            over,
+        }
+    }
 }
 
 /// The device's answer to a packet from the host is that of the endpoint's pipe, NAK for the core's. The packet makes of the
