@@ -1,0 +1,12 @@
+pub mod Goes
+pub mod Moved
+pub mod Loops
+pub mod Chunks
+pub mod Kept
+pub mod Moves
+pub mod Loaded
+pub mod Arrivals
+pub mod Sound
+pub mod Closed
+pub mod Noted
+pub mod Opened

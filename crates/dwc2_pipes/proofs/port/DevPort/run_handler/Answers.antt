@@ -1,0 +1,15 @@
+-- Controller, software and rings agree after the run.
+use Rattle.std.proofs.Common.{◌∙◌}
+use Rattle.device_endpoints.proofs.Stages.{reset_is}
+use Rattle.dwc2_pipes.specs.Driver.{whole}
+use Rattle.dwc2_pipes.proofs.Sound.{run_ends}
+use Rattle.dwc2_pipes.proofs.port.DevPort.run_handler.Goals as goal
+
+pub returns-clause-port : goal.returns-clause-port
+returns-clause-port g c = (run_ends (whole c.args.self.now c.args.rings.now) (whole c.handle.new.self c.handle.new.rings) c.requires.sound c.handle.ensures.whole).port
+
+pub returns-clause-sound : goal.returns-clause-sound
+returns-clause-sound g c = (run_ends (whole c.args.self.now c.args.rings.now) (whole c.handle.new.self c.handle.new.rings) c.requires.sound c.handle.ensures.whole).sound
+
+pub returns-clause-wakes : goal.returns-clause-wakes
+returns-clause-wakes g c = λ h. c.handle.ensures.wakes (reset_is c.args.self.now.bank.table ∙ h)

@@ -1,0 +1,21 @@
+-- What the calls on endpoints other than 0 need of what the driver keeps.
+use Rattle.std.specs.Prelude.{ℕ, ◌+◌, ◌-◌, ◌≤◌, ◌⊎◌, nat_lt, Bool, true, false, if◌then◌else◌}
+use Rattle.dwc2_regs.specs.declared.access.TheConstants.{FS4}
+use Rattle.endpoint_relation.specs.OutRelation.{is_open}
+use Rattle.endpoint_relation.specs.declared.in_.InState.{InState}
+use Rattle.endpoint_relation.specs.declared.in_.InState.TheVariants.{Closed, Rest, Running, Posted}
+use Rattle.device_endpoints.specs.Software.{Software, out_kept, in_kept}
+
+-- the address of an endpoint other than 0 that the controller has
+abbrev pub IsNumbered : ℕ → Type 0
+IsNumbered address = ((1 ≤ address) × (address ≤ FS4.out_eps)) ⊎ ((129 ≤ address) × (address ≤ 128 + FS4.in_eps))
+
+abbrev pub is_in_open : InState → Bool
+is_in_open Closed = false
+is_in_open Rest = true
+is_in_open Running = true
+is_in_open Posted = true
+
+-- the endpoint at an address is open
+abbrev pub is_open_at : Software → ℕ → Bool
+is_open_at s address = if nat_lt address 128 then is_open (out_kept s address).state else is_in_open (in_kept s (address - 128)).state
