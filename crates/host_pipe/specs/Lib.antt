@@ -7,3 +7,4 @@ pub mod Laws
 pub mod Steps
 pub mod OutExamples
 pub mod InExamples
+pub mod ClearExamples

@@ -14,6 +14,7 @@ ghost use Rattle.host_pipe.specs.InLink.{InStep, in_run, in_start};
 ghost use Rattle.host_pipe.specs.Laws.{IsSentOnce, IsHeldOnce, IsUnheard, IsItOrNothing, ClearsNoOut, EndsNoOut, ClearsNoIn, EndsNoIn, IsRow, out_row, IsInRow, in_row};
 ghost use Rattle.host_pipe.specs.Steps.{out_pipe, in_pipe, OutStarts, OutMeets, OutServes, OutAcked, OutNotes, OutTries, OutWithdraws, OutWithdrawsEmpty, OutClearEnds, InStarts, InMeets, InData, InServes, InNotes, InTries, InClears};
 ghost use Rattle.host_pipe.specs.OutExamples.{out_successful, out_successful_end, out_not_accepted, out_not_accepted_end, out_again, out_again_end, out_lost, out_lost_end, out_stalled, out_stalled_end, out_empty, out_empty_end};
+ghost use Rattle.host_pipe.specs.ClearExamples.{OutClearsWorked, InClearsWorked};
 ghost use Rattle.host_pipe.specs.InExamples.{in_successful, in_successful_end, in_not_accepted, in_not_accepted_end, in_again, in_again_end, in_lost, in_lost_end, in_stalled, in_stalled_end};
 
 /// OUT, exactly once and in order, in runs without a clear: whatever is lost on the way, the device took each packet that a
@@ -153,4 +154,11 @@ pub fn in_examples()
     ensures again { in_again ≡ in_again_end }
     ensures lost { in_lost ≡ in_lost_end }
     ensures stalled { in_stalled ≡ in_stalled_end }
+{}
+
+/// Clears of a halted pipe, of a dead one, of one whose answer nobody has looked at and of one at rest: accepted, twice, passed and
+/// failed (9.4.5). What goes on after one that passed goes with DATA0.
+pub fn worked_clears()
+    ensures out { OutClearsWorked }
+    ensures input { InClearsWorked }
 {}
