@@ -11,7 +11,7 @@ use Rattle.device_pipe.specs.Link.{Fate, Whole, DataLost, HandshakeLost}
 use Rattle.host_pipe.specs.Tries.{Went, Refused, Lost, most_tries}
 use Rattle.host_pipe.specs.OutPipe.{OutPhase, Closed, Rest, Running, Landed, Posted, Halted, Dead, Clearing, Acknowledged, Stalled, Unheard, Irq, Task, Starts, Writes, Asks, out_sent}
 use Rattle.host_pipe.specs.OutLink.{OutLink, Attitude, Takes, Waits, Stalls, transacted, OutStep, Sends, Does, out_start, out_step, out_run}
-use Rattle.host_pipe.specs.Laws.{in_doubt, IsFront, IsSentOnce}
+use Rattle.host_pipe.specs.Laws.{doubt_of, in_doubt, IsFront, IsSentOnce}
 
 -- what is under way in each phase, and whether the toggles are the same
 abbrev Has : OutPhase → Option (List ℕ) → Bool → Type 0
@@ -58,26 +58,30 @@ in_doubt_some Halted under_way same h e = h
 in_doubt_some Dead under_way same h e = h
 in_doubt_some Clearing under_way same h e = elim (true≢false (sym h.1 ∙ e)) [ ]
 
-nothing_sent : (packet : List ℕ) → None ≡ Some packet → ⊥
-nothing_sent packet e = true≢false (sym (ap (λ (o : Option (List ℕ)). is_some o) e))
+front_way : (under_way : Option (List ℕ)) (pending packet : List ℕ) → FrontOf under_way pending → under_way ≡ Some packet → IsFront packet pending
+front_way under_way pending packet front e = subst (λ (o : Option (List ℕ)). FrontOf o pending) e front
 
-front_sent : (link : OutLink) (phase : OutPhase) (packet : List ℕ) → link.pipe.phase ≡ phase → FrontOf link.pipe.under_way link.pipe.pending
-    → out_sent (record link.pipe { phase = phase }) ≡ Some packet → IsFront packet link.pipe.pending
-front_sent link Running packet is front e = subst (λ (o : Option (List ℕ)). FrontOf o link.pipe.pending) e front
-front_sent link Closed packet is front e = elim (nothing_sent packet e) [ ]
-front_sent link Rest packet is front e = elim (nothing_sent packet e) [ ]
-front_sent link (Landed result) packet is front e = elim (nothing_sent packet e) [ ]
-front_sent link (Posted note) packet is front e = elim (nothing_sent packet e) [ ]
-front_sent link Halted packet is front e = elim (nothing_sent packet e) [ ]
-front_sent link Dead packet is front e = elim (nothing_sent packet e) [ ]
-front_sent link Clearing packet is front e = elim (nothing_sent packet e) [ ]
+-- what the host took off, with the packet in doubt
+taken_whole : (gone : List (List ℕ)) (same : Bool) (under_way : Option (List ℕ)) (pending written : List ℕ) → FrontOf under_way pending
+    → concat gone ++ pending ≡ written → IsFront (concat (gone ++ doubt_of same under_way)) written
+taken_whole gone true under_way pending written front e =
+    record { rest = pending; whole = sym e ∙ ap (λ (x : List (List ℕ)). concat x ++ pending) (sym (append-nil gone)) }
+taken_whole gone false None pending written front e =
+    record { rest = pending; whole = sym e ∙ ap (λ (x : List (List ℕ)). concat x ++ pending) (sym (append-nil gone)) }
+taken_whole gone false (Some packet) pending written front e = record {
+  rest = front.rest;
+  whole = sym e ∙ ap (λ (x : List ℕ). concat gone ++ x) front.whole ∙ sym (append_assoc (concat gone) packet front.rest)
+      ∙ ap (λ (x : List ℕ). (concat gone ++ x) ++ front.rest) (sym (append-nil packet)) ∙ ap (λ (x : List ℕ). x ++ front.rest) (sym (concat-append gone (packet ∷ [])));
+}
 
 sent_once : (link : OutLink) → Sound link → IsSentOnce link
 sent_once link s = record {
   packets = s.packets;
   bytes = s.bytes;
   doubt = λ e. in_doubt_some link.pipe.phase link.pipe.under_way (same_toggle link.pipe.toggle link.toggle) s.has e;
-  front = λ packet e. front_sent link link.pipe.phase packet refl s.front e;
+  front = λ packet e. front_way link.pipe.under_way link.pipe.pending packet s.front e;
+  whole = subst (λ (x : List (List ℕ)). IsFront (concat x) link.written) (sym s.packets)
+      (taken_whole link.gone (same_toggle link.pipe.toggle link.toggle) link.pipe.under_way link.pipe.pending link.written s.front s.bytes);
 }
 
 -- The bus.

@@ -33,8 +33,10 @@ pub record IsSentOnce (link : OutLink) : Type 0 where
   pub bytes : concat link.gone ++ link.pipe.pending ≡ link.written
   -- where the toggles differ there is a packet in doubt
   pub doubt : same_toggle link.pipe.toggle link.toggle ≡ false → is_some link.pipe.under_way ≡ true
-  -- what is sent is the front of what is pending
-  pub front : (packet : List ℕ) → out.out_sent link.pipe ≡ Some packet → IsFront packet link.pipe.pending
+  -- the packet under way is the front of what is pending
+  pub front : (packet : List ℕ) → link.pipe.under_way ≡ Some packet → IsFront packet link.pipe.pending
+  -- and what the device took, joined, the front of what the class wrote
+  pub whole : IsFront (concat link.taken) link.written
 
 -- the data that landed, and the toggle that is expected once a handler run took it in
 abbrev pub landed : InPhase → List ℕ

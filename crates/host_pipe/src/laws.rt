@@ -19,7 +19,8 @@ ghost use Rattle.host_pipe.specs.InExamples.{in_successful, in_successful_end, i
 
 /// OUT, exactly once and in order, in runs without a clear: whatever is lost on the way, the device took each packet that a
 /// handler run took off, and the one under way exactly where the toggles differ (8.6.4). Joined, those taken off are the front of
-/// what the class wrote, and the packet under way is the front of what is left.
+/// what the class wrote, and the packet under way, in every phase, is the front of what is left. What the device took, joined, is the
+/// front of what the class wrote too.
 pub fn out_exactly_once()
     ensures { (size : ℕ) (capacity : ℕ) (steps : List OutStep) → IsSentOnce (out_run size capacity out_start steps) }
 {}
