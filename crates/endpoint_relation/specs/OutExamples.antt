@@ -5,7 +5,7 @@ use Rattle.usb_packet.specs.declared.bus.Toggle.TheVariants.{D0, D1}
 use Rattle.usb_packet.specs.declared.bus.BusEvent.{BusEvent}
 use Rattle.usb_packet.specs.declared.bus.BusEvent.TheVariants as event
 use Rattle.usb_packet.specs.declared.bus.BusAnswer.TheVariants as answers
-use Rattle.usb_packet.specs.declared.bus.Owner.TheVariants.{Core}
+use Rattle.usb_packet.specs.declared.bus.Owner.TheVariants.{Core, Cdc}
 use Rattle.usb_descriptor.specs.declared.endpoint.Endpoint.{Endpoint}
 use Rattle.usb_descriptor.specs.declared.endpoint.EpKind.TheVariants.{Bulk, Interrupt}
 use Rattle.dwc2_regs.specs.declared.access.TheConstants.{FS4}
@@ -23,6 +23,9 @@ use Rattle.endpoint_relation.specs.OutTable.{open_writes, arm_writes, halt_write
 
 abbrev pub bulk_endpoint : Endpoint
 bulk_endpoint = record { addr = 1; kind = Bulk; size = 64; owner = Core }
+
+abbrev pub class_endpoint : Endpoint
+class_endpoint = record bulk_endpoint { owner = Cdc }
 
 abbrev pub interrupt_endpoint : Endpoint
 interrupt_endpoint = record { addr = 2; kind = Interrupt; size = 8; owner = Core }
@@ -77,6 +80,9 @@ pub record OutRegistersWorked : Type 0 where
   pub cleared : value_read (clear_writes with_landed 1 (at_rest bulk_endpoint)) (doepctl 1) ≡ 0x000a8040
   pub closed : value_read (close_writes with_landed 1) (doepctl 1) ≡ 0x00020000
   pub none : value_read (close_writes with_landed 1) (doepint 1) ≡ 0
+  -- a class's endpoint shows its halt by STALL, bit 21, and keeps all else; the core's shows nothing
+  pub halted : value_read (halt_writes with_open 1 (at_rest class_endpoint)) (doepctl 1) ≡ 0x002a8040
+  pub core_halt : value_read (halt_writes with_open 1 (at_rest bulk_endpoint)) (doepctl 1) ≡ 0x000a8040
 
 -- An awake device with endpoint 1 open, at address 0: a packet gets NAK until the endpoint is armed; then one of DATA1 is
 -- acknowledged and dropped, and one of DATA0 lands. It gets NAK where it comes again, also once a handler run moved it; once the

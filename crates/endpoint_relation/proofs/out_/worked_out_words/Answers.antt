@@ -17,7 +17,7 @@ pub returns-clause-sizes : goal.returns-clause-sizes
 returns-clause-sizes c = λ n size h. record { bytes = bytes_are n size h; packets = packets_are n size h }
 
 pub returns-clause-registers : goal.returns-clause-registers
-returns-clause-registers c = record { opened = refl; armed = refl; size = refl; nothing_landed = refl; landed = refl; some_landed = refl; status = refl; served = refl; quiet = refl; cleared = refl; closed = refl; none = refl }
+returns-clause-registers c = record { opened = refl; armed = refl; size = refl; nothing_landed = refl; landed = refl; some_landed = refl; status = refl; served = refl; quiet = refl; cleared = refl; closed = refl; none = refl; halted = refl; core_halt = refl }
 
 pub returns-clause-answers : goal.returns-clause-answers
 returns-clause-answers c = record {
