@@ -5,6 +5,7 @@ use Rattle.usb_packet.specs.declared.bus.Toggle.{Toggle}
 use Rattle.usb_packet.specs.declared.bus.Toggle.TheVariants.{D0, D1}
 use Rattle.usb_packet.specs.declared.bus.BusAnswer.TheVariants as answers
 use Rattle.usb_packet.specs.declared.bus.BusEvent.TheVariants as event
+use Rattle.usb_packet.specs.Toggles.{flipped}
 use Rattle.device_machine.specs.declared.control.Stage.TheVariants.{Sent}
 use Rattle.device_machine.specs.declared.control.Side.{Side}
 use Rattle.device_machine.specs.declared.control.Side.TheVariants.{Off, Wait, Loaded, Last, Armed, Stall, Finished}
@@ -14,7 +15,7 @@ use Rattle.device_machine.specs.Pipes.{Pipes}
 use Rattle.dwc2_regs.specs.declared.access.TheConstants.{FS4}
 use Rattle.dwc2_fifo.specs.Tx.{Tx, first_with, without_first}
 use Rattle.device_table.specs.State.{Table, InEnd, rx_depth}
-use Rattle.device_table.specs.Words.{packet_count, transfer_size, flipped}
+use Rattle.device_table.specs.Words.{packet_count, transfer_size}
 use Rattle.device_table.specs.Write.{setup_lies}
 use Rattle.device_table.specs.Bus as table
 use Rattle.device_table.specs.Bus.{InOutcome, unheard_in, naks_in, stalls_in, sends, sends_of, packet_ready, in_outcome}
@@ -213,12 +214,12 @@ fifo_is end bytes h size holds =
     ∙ ap (λ tx. fifo_by (length bytes) 1 tx) holds
     ∙ acked_fifo bytes
 
-flipped_is : (toggle : Toggle) (seen : Bool) (its : Toggle) → seen ≡ true → its ≡ toggle → bus.flipped toggle ≡ toggle_of seen (flipped its)
+flipped_is : (toggle : Toggle) (seen : Bool) (its : Toggle) → seen ≡ true → its ≡ toggle → flipped toggle ≡ toggle_of seen (flipped its)
 flipped_is D0 seen its e k = rw (e, k) refl
 flipped_is D1 seen its e k = rw (e, k) refl
 
 pub sent_stands : (t : Table) (s : Software) (m : Bus) → Stands FS4 t s m → IsTrue (is_loaded m.side)
-    → Stands FS4 (table.after_in t 0 true (sends (loaded_bytes m.side))) s (record m { side = sent_side m.side; toggle = bus.flipped m.toggle })
+    → Stands FS4 (table.after_in t 0 true (sends (loaded_bytes m.side))) s (record m { side = sent_side m.side; toggle = flipped m.toggle })
 sent_stands t s m st h =
     let r : Sends m.side = sends_side m.side h in
     let p : IsPacket (loaded_bytes m.side) = loaded_packet m.side st.side.packet in
@@ -255,10 +256,10 @@ after_by naks_in ok x m = m
 after_by stalls_in ok x m = m
 
 abbrev sent_bus : Bus → Bus
-sent_bus m = record m { side = sent_side m.side; toggle = bus.flipped m.toggle }
+sent_bus m = record m { side = sent_side m.side; toggle = flipped m.toggle }
 
 nexts_agree : (heard waits ok : Bool) (side : Side) (m : Bus)
-    → after_by (outcome_of heard waits side) ok (record m { side = sent_side side; toggle = bus.flipped m.toggle }) (record m { side = side })
+    → after_by (outcome_of heard waits side) ok (record m { side = sent_side side; toggle = flipped m.toggle }) (record m { side = side })
     ≡ (if heard && (ok && not waits) then bus.after_in (record m { side = side }) side else record m { side = side })
 unfolding after_by
 nexts_agree false waits ok side m = refl

@@ -6,6 +6,7 @@ use Rattle.usb_packet.specs.declared.bus.Toggle.{Toggle}
 use Rattle.usb_packet.specs.declared.bus.Toggle.TheVariants.{D0, D1}
 use Rattle.usb_packet.specs.declared.bus.BusAnswer.TheVariants as answers
 use Rattle.usb_packet.specs.declared.bus.BusEvent.TheVariants as event
+use Rattle.usb_packet.specs.Toggles.{same_toggle}
 use Rattle.device_machine.specs.declared.control.Stage.TheVariants.{Came}
 use Rattle.device_machine.specs.declared.control.Side.{Side}
 use Rattle.device_machine.specs.declared.control.Side.TheVariants.{Off, Wait, Loaded, Last, Armed, Stall, Finished}
@@ -17,7 +18,7 @@ use Rattle.dwc2_fifo.specs.Words.{word_count}
 use Rattle.dwc2_fifo.specs.Rx.{Rx, room_of}
 use Rattle.dwc2_fifo.specs.Tx.{Tx, empty_of as tx_empty}
 use Rattle.device_table.specs.State.{Table, rx_depth}
-use Rattle.device_table.specs.Words.{same_toggle, packet_size}
+use Rattle.device_table.specs.Words.{packet_size}
 use Rattle.device_table.specs.Write.{setup_lies, setup_in}
 use Rattle.device_table.specs.Bus as table
 use Rattle.device_table.specs.Bus.{OutOutcome, unheard, naks, stalls, drops, lands, out_entries, is_repeated_of, has_room, hears_out, out_outcome}

@@ -2,12 +2,13 @@
 use Rattle.std.proofs.Common.{◌≡◌, ◌<◌, ℕ, zero, suc, List, [], ◌∷◌, ◌++◌, Bool, true, false, ◌&&◌, ◌==◌, length, if◌then◌else◌, Option, Some, None, refl, sym, ap, subst, ◌∙◌, arith, append_assoc}
 use Rattle.usb_packet.specs.declared.bus.Toggle.TheVariants.{D1}
 use Rattle.usb_packet.specs.Setup.{fields_of}
+use Rattle.usb_packet.specs.Toggles.{flipped}
 use Rattle.usb_descriptor.specs.Set.{Set}
 use Rattle.device_machine.specs.declared.control.Stage.{Stage}
 use Rattle.device_machine.specs.declared.control.Stage.TheVariants.{Sent, Came}
 use Rattle.device_machine.specs.declared.control.Side.{Side}
 use Rattle.device_machine.specs.declared.control.Side.TheVariants.{Off, Wait, Finished}
-use Rattle.device_machine.specs.Bus.{is_empty, flipped, hears, hears_setup, after_setup, disturbed, finished_stage, last_of}
+use Rattle.device_machine.specs.Bus.{is_empty, hears, hears_setup, after_setup, disturbed, finished_stage, last_of}
 use Rattle.device_machine.specs.Packets.{data_packets}
 use Rattle.device_machine.specs.Core.{Core, Transfer, Idle, Sending, Ending, Addressing, new_address, with_stage, with_request, after_stages, after_irq, sending, with_data, begun, work_request, with_pipes_served, with_pipes_worked, with_control_worked, after_task}
 use Rattle.device_machine.specs.Pipes.{pipes_after_irq, pipes_after_task}

@@ -4,6 +4,7 @@ use Rattle.usb_packet.specs.declared.bus.Toggle.{Toggle}
 use Rattle.usb_packet.specs.declared.bus.Toggle.TheVariants.{D0, D1}
 use Rattle.usb_packet.specs.declared.bus.BusAnswer.TheVariants as answers
 use Rattle.usb_packet.specs.Setup.{fields_of}
+use Rattle.usb_packet.specs.Toggles.{flipped}
 use Rattle.usb_pipe.specs.declared.decision.Decision.TheVariants.{Data}
 use Rattle.usb_descriptor.specs.Set.{Set}
 use Rattle.usb_control.specs.declared.state.Effect.TheVariants as effect
@@ -13,7 +14,7 @@ use Rattle.device_machine.specs.declared.control.Stage.{Stage}
 use Rattle.device_machine.specs.declared.control.Stage.TheVariants.{Sent}
 use Rattle.device_machine.specs.declared.control.Side.{Side}
 use Rattle.device_machine.specs.declared.control.Side.TheVariants.{Off, Wait, Loaded, Last, Armed, Finished}
-use Rattle.device_machine.specs.Bus.{is_empty, flipped, finished_stage, last_of}
+use Rattle.device_machine.specs.Bus.{is_empty, finished_stage, last_of}
 use Rattle.device_machine.specs.Core.{Core, Transfer, Sending, state_of, new_address, with_pipes_served, with_pipes_worked}
 use Rattle.device_machine.specs.Pipes.{Pipes, pipes_after_irq, pipes_after_task, halted_addresses}
 use Rattle.device_machine.proofs.Slots.{irq_keeps, task_keeps, halts_of}

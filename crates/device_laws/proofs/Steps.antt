@@ -4,11 +4,12 @@ use Rattle.usb_packet.specs.declared.bus.Toggle.{Toggle}
 use Rattle.usb_packet.specs.declared.bus.Toggle.TheVariants.{D0, D1}
 use Rattle.usb_packet.specs.declared.bus.BusAnswer.{BusAnswer}
 use Rattle.usb_packet.specs.declared.bus.BusAnswer.TheVariants as answers
+use Rattle.usb_packet.specs.Toggles.{flipped}
 use Rattle.device_machine.specs.declared.control.Stage.{Stage}
 use Rattle.device_machine.specs.declared.control.Stage.TheVariants.{Sent, Came}
 use Rattle.device_machine.specs.declared.control.Side.{Side}
 use Rattle.device_machine.specs.declared.control.Side.TheVariants.{Off, Wait, Loaded, Last, Armed, Stall, Finished}
-use Rattle.device_machine.specs.Bus.{is_empty, flipped, disturbed, after_setup, after_out, after_in, in_answer, finished_stage, last_of}
+use Rattle.device_machine.specs.Bus.{is_empty, disturbed, after_setup, after_out, after_in, in_answer, finished_stage, last_of}
 use Rattle.device_machine.specs.Core.{Core, Transfer, Idle, Sending, Ending, Addressing, new_address}
 use Rattle.device_laws.specs.Seen.{Seen, asked_address, heard, given}
 use Rattle.device_laws.proofs.Facts.{Quiet, Runs, Sends, Underway, Serves, Matches, Fresh, Facts}

@@ -7,8 +7,8 @@ use Rattle.usb_packet.specs.declared.bus.BusEvent.{BusEvent}
 use Rattle.usb_packet.specs.declared.bus.BusEvent.TheVariants as event
 use Rattle.usb_packet.specs.declared.bus.BusAnswer.{BusAnswer}
 use Rattle.usb_packet.specs.declared.bus.BusAnswer.TheVariants as answers
+use Rattle.usb_packet.specs.Toggles.{flipped}
 use Rattle.usb_descriptor.specs.declared.endpoint.Endpoint.{Endpoint}
-use Rattle.device_pipe.specs.Toggles.{flipped}
 use Rattle.device_pipe.specs.OutPipe as out
 use Rattle.device_pipe.specs.OutPipe.{OutPipe, OutPhase}
 use Rattle.device_pipe.specs.InPipe as inward

@@ -7,6 +7,7 @@ use Rattle.usb_packet.specs.declared.bus.BusEvent.{BusEvent}
 use Rattle.usb_packet.specs.declared.bus.BusEvent.TheVariants as event
 use Rattle.usb_packet.specs.declared.bus.BusAnswer.{BusAnswer}
 use Rattle.usb_packet.specs.declared.bus.BusAnswer.TheVariants as answers
+use Rattle.usb_packet.specs.Toggles.{flipped}
 use Rattle.device_machine.specs.declared.control.Stage.{Stage}
 use Rattle.device_machine.specs.declared.control.Stage.TheVariants.{Sent, Came}
 use Rattle.device_machine.specs.declared.control.Side.{Side}
@@ -40,10 +41,6 @@ most_setups = 3
 abbrev pub is_empty : {A : Type 0} → List A → Bool
 is_empty [] = true
 is_empty (x ∷ xs) = false
-
-abbrev pub flipped : Toggle → Toggle
-flipped D0 = D1
-flipped D1 = D0
 
 -- a device answers to its own address alone, and nothing from a reset until a handler run has served it
 abbrev pub hears : Bus → ℕ → Bool

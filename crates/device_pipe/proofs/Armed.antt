@@ -3,7 +3,7 @@ use Rattle.std.proofs.Common.{◌≡◌, ℕ, List, [], ◌∷◌, false, refl, 
 use Rattle.std.proofs.lemmas.List.Elements.{All-head, All-tail}
 use Rattle.usb_packet.specs.declared.bus.Toggle.{Toggle}
 use Rattle.usb_packet.specs.declared.bus.BusAnswer.TheVariants as answers
-use Rattle.device_pipe.specs.Toggles.{flipped, same_toggle}
+use Rattle.usb_packet.specs.Toggles.{flipped, same_toggle}
 use Rattle.device_pipe.specs.OutPipe.{OutPipe, Armed, Landed, OutDeed, Irq, Task, Arms, Reads, Halts, OutEvent, Packet, Does, Clears, Drops, out_answer, after_packet, phase_after_irq, phase_after_task, phase_armed, after_deed, after_event, after_events}
 use Rattle.device_pipe.specs.Laws.{IsNoOutHalt, LeavesArmed, LeavesToggle}
 use Rattle.device_pipe.proofs.Refused as refused

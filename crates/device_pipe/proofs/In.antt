@@ -8,7 +8,7 @@ use Rattle.usb_packet.specs.declared.bus.Toggle.{Toggle}
 use Rattle.usb_packet.specs.declared.bus.Toggle.TheVariants.{D0, D1}
 use Rattle.usb_packet.specs.declared.bus.BusAnswer.{BusAnswer}
 use Rattle.usb_packet.specs.declared.bus.BusAnswer.TheVariants as answers
-use Rattle.device_pipe.specs.Toggles.{same_toggle}
+use Rattle.usb_packet.specs.Toggles.{same_toggle}
 use Rattle.device_pipe.specs.InPipe.{InPhase, Closed, Rest, Running, Posted, InDeed, Irq, Task, Starts, Writes, Halts, after_answer, cut, beyond_transfer, load}
 use Rattle.device_pipe.specs.Link.{Fate, Whole, DataLost, HandshakeLost, arrives, is_whole}
 use Rattle.device_pipe.specs.InLink.{InLink, in_start, host_end, asked, InStep, Asks, Does, in_step, in_run}

@@ -1,7 +1,7 @@
 -- Bytes that an OUT pipe acknowledged are read, held or landed.
 use Rattle.std.proofs.Common.{◌≡◌, ℕ, ◌++◌, List, [], ◌∷◌, Bool, true, false, ◌&&◌, if◌then◌else◌, take, drop, refl, sym, ap, ◌∙◌, append_assoc, append-nil, take-append-drop, All}
 use Rattle.std.proofs.lemmas.List.Elements.{All-head, All-tail}
-use Rattle.device_pipe.specs.Toggles.{flipped, same_toggle}
+use Rattle.usb_packet.specs.Toggles.{flipped, same_toggle}
 use Rattle.device_pipe.specs.OutPipe.{OutPipe, Landed, OutDeed, Irq, Task, Arms, Reads, Halts, OutEvent, Packet, Does, Clears, Drops, out_answer, is_ack, landed, after_deed, after_event, after_events}
 use Rattle.device_pipe.specs.OutLink.{read_by}
 use Rattle.device_pipe.specs.Laws.{took, took_by, read, read_at, DropsNothing}

@@ -3,7 +3,7 @@ use Rattle.std.proofs.Common.{◌≡◌, ℕ, zero, suc, ◌≤◌, ◌++◌, Li
 use Rattle.usb_packet.specs.declared.bus.Toggle.{Toggle}
 use Rattle.usb_packet.specs.declared.bus.Toggle.TheVariants.{D0, D1}
 use Rattle.usb_packet.specs.declared.bus.BusAnswer.TheVariants as answers
-use Rattle.device_pipe.specs.Toggles.{flipped}
+use Rattle.usb_packet.specs.Toggles.{flipped}
 use Rattle.device_pipe.specs.OutPipe as out
 use Rattle.device_pipe.specs.OutPipe.{OutPipe}
 use Rattle.device_pipe.specs.InPipe.{InPipe, InPhase, Closed, Rest, Running, Posted, Token, Does, Clears, Irq, Starts, in_answer, ended, cut, cut_within, cleared, after_irq, after_events}

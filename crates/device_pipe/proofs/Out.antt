@@ -4,7 +4,7 @@ use Rattle.std.specs.List.{concat}
 use Rattle.std.proofs.lemmas.List.Folds.{concat-append}
 use Rattle.usb_packet.specs.declared.bus.Toggle.{Toggle}
 use Rattle.usb_packet.specs.declared.bus.Toggle.TheVariants.{D0, D1}
-use Rattle.device_pipe.specs.Toggles.{flipped, same_toggle}
+use Rattle.usb_packet.specs.Toggles.{flipped, same_toggle}
 use Rattle.device_pipe.specs.OutPipe.{OutPipe, OutPhase, Closed, Rest, Armed, Landed, Posted, Stale, OutDeed, Irq, Task, Arms, Reads, Halts, out_answer, answer_at, is_ack, landed, phase_after_irq, phase_after_task, came_at, phase_armed, leaves_packet}
 use Rattle.device_pipe.specs.Link.{Fate, Whole, DataLost, HandshakeLost, arrives, is_whole}
 use Rattle.device_pipe.specs.OutLink.{OutLink, out_start, transacted, OutStep, Sends, Does, out_step, out_run, moved_on}

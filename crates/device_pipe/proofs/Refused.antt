@@ -5,7 +5,7 @@ use Rattle.usb_packet.specs.declared.bus.Toggle.{Toggle}
 use Rattle.usb_packet.specs.declared.bus.Toggle.TheVariants.{D0, D1}
 use Rattle.usb_packet.specs.declared.bus.BusAnswer.{BusAnswer}
 use Rattle.usb_packet.specs.declared.bus.BusAnswer.TheVariants as answers
-use Rattle.device_pipe.specs.Toggles.{flipped, same_toggle}
+use Rattle.usb_packet.specs.Toggles.{flipped, same_toggle}
 use Rattle.device_pipe.specs.OutPipe.{OutPipe, OutPhase, Closed, Rest, Armed, Landed, Posted, Stale, OutDeed, Irq, Task, Arms, Reads, Halts, OutEvent, Packet, Does, Clears, Drops, out_answer, answer_at, is_ack, after_packet, phase_after_irq, phase_after_task, phase_armed, after_deed, after_deeds, after_event, after_events, opened, leaves_packet, after_irq, armed, closed}
 use Rattle.device_pipe.specs.InPipe as inward
 use Rattle.device_pipe.specs.InPipe.{InPipe, InPhase, InDeed, InEvent, in_answer, after_answer, after_token}

@@ -5,7 +5,7 @@ use Rattle.usb_packet.specs.declared.bus.Toggle.{Toggle}
 use Rattle.usb_packet.specs.declared.bus.Toggle.TheVariants.{D0}
 use Rattle.usb_packet.specs.declared.bus.BusAnswer.{BusAnswer}
 use Rattle.usb_packet.specs.declared.bus.BusAnswer.TheVariants as answers
-use Rattle.device_pipe.specs.Toggles.{flipped, same_toggle}
+use Rattle.usb_packet.specs.Toggles.{flipped, same_toggle}
 use Rattle.device_pipe.specs.InPipe.{InPipe, InPhase, Closed, Rest, Running, Posted, cut, InDeed, Irq, Task, Starts, Writes, Halts, in_answer, after_token, after_deed, ended, room, opened}
 use Rattle.device_pipe.specs.Link.{Fate, arrives, is_whole}
 

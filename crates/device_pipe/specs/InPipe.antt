@@ -4,7 +4,7 @@ use Rattle.usb_packet.specs.declared.bus.Toggle.{Toggle}
 use Rattle.usb_packet.specs.declared.bus.Toggle.TheVariants.{D0}
 use Rattle.usb_packet.specs.declared.bus.BusAnswer.{BusAnswer}
 use Rattle.usb_packet.specs.declared.bus.BusAnswer.TheVariants as answers
-use Rattle.device_pipe.specs.Toggles.{flipped}
+use Rattle.usb_packet.specs.Toggles.{flipped}
 
 pub data InPhase : Type 0 where
   -- no session has it open

@@ -1,4 +1,3 @@
-pub mod Toggles
 pub mod OutPipe
 pub mod InPipe
 pub mod Link

@@ -3,7 +3,7 @@
 use Rattle.std.specs.Prelude.{ℕ, ◌+◌, ◌++◌, List, [], ◌∷◌, Bool, ◌&&◌, take, if◌then◌else◌}
 use Rattle.usb_packet.specs.declared.bus.Toggle.{Toggle}
 use Rattle.usb_packet.specs.declared.bus.Toggle.TheVariants.{D0}
-use Rattle.device_pipe.specs.Toggles.{flipped}
+use Rattle.usb_packet.specs.Toggles.{flipped}
 use Rattle.device_pipe.specs.OutPipe.{OutPipe, OutDeed, Irq, Task, Arms, Reads, Halts, out_answer, is_ack, after_packet, after_deed, came, opened}
 use Rattle.device_pipe.specs.Link.{Fate, arrives, is_whole}
 

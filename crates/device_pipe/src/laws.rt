@@ -5,7 +5,7 @@ ghost use Rattle.std.specs.List.{concat, All};
 ghost use Rattle.usb_packet.specs.declared.bus.Toggle.{Toggle};
 ghost use Rattle.usb_packet.specs.declared.bus.Toggle.TheVariants.{D0};
 ghost use Rattle.usb_packet.specs.declared.bus.BusAnswer.TheVariants as answers;
-ghost use Rattle.device_pipe.specs.Toggles.{flipped, same_toggle};
+ghost use Rattle.usb_packet.specs.Toggles.{flipped, same_toggle};
 ghost use Rattle.device_pipe.specs.OutPipe as out;
 ghost use Rattle.device_pipe.specs.OutPipe.{OutPipe, OutDeed, OutEvent, out_answer, is_ack, landed};
 ghost use Rattle.device_pipe.specs.InPipe as inward;

@@ -6,13 +6,14 @@ use Rattle.usb_packet.specs.declared.bus.BusEvent.{BusEvent}
 use Rattle.usb_packet.specs.declared.bus.BusEvent.TheVariants as event
 use Rattle.usb_packet.specs.declared.bus.BusAnswer.{BusAnswer}
 use Rattle.usb_packet.specs.declared.bus.BusAnswer.TheVariants as answers
+use Rattle.usb_packet.specs.Toggles.{flipped, same_toggle}
 use Rattle.dwc2_regs.specs.declared.TheConstants.{DCFG_ADDRESS, DIEPCTL_USBAEP}
 use Rattle.dwc2_regs.specs.Field.{field_of}
 use Rattle.dwc2_fifo.specs.Words.{words_of, word_count}
 use Rattle.dwc2_fifo.specs.Rx.{Entry, room_of}
 use Rattle.dwc2_fifo.specs.Tx.{Tx, first_with, without_first}
 use Rattle.device_table.specs.State.{Table, Control, InEnd, OutEnd, in_end, out_end, with_in, with_out}
-use Rattle.device_table.specs.Words.{flag, flipped, same_toggle, packet_size, transfer_size, packet_count, with_packet_count, pid_of, status_word, out_data, out_done, setup_data, setup_done}
+use Rattle.device_table.specs.Words.{flag, packet_size, transfer_size, packet_count, with_packet_count, pid_of, status_word, out_data, out_done, setup_data, setup_done}
 use Rattle.device_table.specs.Write.{emptied, setup_lies}
 
 -- Who is spoken to.

@@ -1,5 +1,5 @@
 -- Bits and fields of the words that the registers show and take.
-use Rattle.std.specs.Prelude.{ℕ, zero, suc, ◌+◌, ◌*◌, ◌^◌, ◌==◌, ◌||◌, nat_lt, Bool, true, false, if◌then◌else◌, List, [], ◌∷◌}
+use Rattle.std.specs.Prelude.{ℕ, zero, suc, ◌+◌, ◌*◌, ◌^◌, ◌==◌, ◌||◌, nat_lt, Bool, if◌then◌else◌, List, [], ◌∷◌}
 use Rattle.usb_packet.specs.declared.bus.Toggle.{Toggle}
 use Rattle.usb_packet.specs.declared.bus.Toggle.TheVariants.{D0, D1}
 use Rattle.dwc2_regs.specs.declared.bits.Field.{Field}
@@ -21,16 +21,6 @@ with_flag word field bit = with_field word field (if bit then 1 else 0)
 abbrev pub cleared : ℕ → List Field → ℕ
 cleared word [] = word
 cleared word (field ∷ fields) = cleared (with_field word field 0) fields
-
-abbrev pub flipped : Toggle → Toggle
-flipped D0 = D1
-flipped D1 = D0
-
-abbrev pub same_toggle : Toggle → Toggle → Bool
-same_toggle D0 D0 = true
-same_toggle D1 D1 = true
-same_toggle D0 D1 = false
-same_toggle D1 D0 = false
 
 -- DIEPCTLx and DOEPCTLx have their common fields in the same bits, so one name of each stands for both.
 

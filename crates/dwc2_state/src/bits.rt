@@ -1,6 +1,7 @@
 // Single bits of words, and the parts of a status word.
 ghost use Rattle.std.specs.Prelude.{◌≡◌, ℕ, ◌+◌, ◌≤◌};
-ghost use Rattle.device_table.specs.Words.{flag, with_flag, flipped, same_toggle, pid_of};
+ghost use Rattle.usb_packet.specs.Toggles.{flipped, same_toggle};
+ghost use Rattle.device_table.specs.Words.{flag, with_flag, pid_of};
 ghost use Rattle.device_table.specs.Read.{bit_at};
 
 use dwc2_regs::{Field, get_field, put_field};

@@ -4,9 +4,9 @@ use Rattle.std.specs.Prelude.{◌&&◌, ◌||◌, not, ◌==◌, if◌then◌els
 use Rattle.std.proofs.lemmas.List.{drop_more}
 use Rattle.std.proofs.lemmas.Bool.Decides.{nat_tests}
 use Rattle.usb_packet.specs.declared.bus.Toggle.{Toggle}
-use Rattle.usb_packet.specs.declared.bus.Toggle.TheVariants.{D0, D1}
 use Rattle.usb_packet.specs.declared.bus.BusAnswer.{BusAnswer}
 use Rattle.usb_packet.specs.declared.bus.BusAnswer.TheVariants as answers
+use Rattle.usb_packet.specs.Toggles.{flipped}
 use Rattle.usb_descriptor.specs.declared.endpoint.Endpoint.{Endpoint}
 use Rattle.usb_descriptor.specs.Set.{is_core}
 use Rattle.dwc2_regs.specs.declared.TheConstants.{DIEPTSIZ_SIZE, DIEPTSIZ_COUNT, DIEPCTL_USBAEP}
@@ -15,9 +15,7 @@ use Rattle.dwc2_regs.proofs.FieldLemmas.{field_of-with_field, field_of-with_fiel
 use Rattle.dwc2_fifo.specs.Tx.{Tx, first_with, without_first}
 use Rattle.device_table.specs.State.{InEnd}
 use Rattle.device_table.specs.Words.{flag}
-use Rattle.device_table.specs.Words as table
 use Rattle.device_table.specs.Bus.{InOutcome, unheard_in, naks_in, stalls_in, sends, sends_of, packet_ready, in_answer, in_acked}
-use Rattle.device_pipe.specs.Toggles.{flipped}
 use Rattle.device_pipe.specs.InPipe as pipe
 use Rattle.device_pipe.specs.InPipe.{InPipe, InPhase, is_closed}
 use Rattle.endpoint_relation.specs.declared.in_.InState.{InState}
@@ -193,10 +191,6 @@ count_is tsiz r h = field_of-with_field tsiz DIEPTSIZ_COUNT r (omega arith)
 size_stays : (tsiz r : ℕ) → r ≤ 2 → field_of (with_field tsiz DIEPTSIZ_COUNT r) DIEPTSIZ_SIZE ≡ field_of tsiz DIEPTSIZ_SIZE
 size_stays tsiz r h = field_of-with_field-apart tsiz DIEPTSIZ_COUNT r DIEPTSIZ_SIZE (omega arith) (inr (omega arith))
 
-flips : (toggle : Toggle) → table.flipped toggle ≡ flipped toggle
-flips D0 = refl
-flips D1 = refl
-
 last_or_not : (r : ℕ) → (r == 0) ≡ not (is_some_of r)
 last_or_not zero = refl
 last_or_not (suc r) = not_zero r
@@ -263,9 +257,8 @@ acked n end s ring l r packet packets others st is sent fifo =
     ap (λ k. take k (drop (suc l - k) ps)) down ∙ ap (take r) is.next ∙ is.behind in
     record {
       abstract =
-          ap (λ k. Made (pipe.Running s.bytes (drop (suc l - k) ps)) k (table.flipped end.toggle)) down
-          ∙ ap (λ left. Made (pipe.Running s.bytes left) r (table.flipped end.toggle)) is.next
-          ∙ ap (Made (pipe.Running s.bytes others) r) (flips end.toggle)
+          ap (λ k. Made (pipe.Running s.bytes (drop (suc l - k) ps)) k (flipped end.toggle)) down
+          ∙ ap (λ left. Made (pipe.Running s.bytes left) r (flipped end.toggle)) is.next
           ∙ sym (ap (λ left. Made (pipe.without_packet (pipe.Running s.bytes left)) (c - 1) (flipped end.toggle)) is.left
           ∙ ap (λ k. Made (pipe.Running s.bytes others) k (flipped end.toggle)) one);
       stands = record {

@@ -6,12 +6,13 @@ use Rattle.std.proofs.lemmas.List.{get_or_past}
 use Rattle.usb_packet.specs.declared.bus.Toggle.{Toggle}
 use Rattle.usb_packet.specs.declared.bus.Toggle.TheVariants.{D0, D1}
 use Rattle.usb_packet.specs.declared.bus.BusEvent.TheVariants as event
+use Rattle.usb_packet.specs.Toggles.{same_toggle}
 use Rattle.usb_ring.specs.Ring.{Ring}
 use Rattle.device_pipe.specs.OutPipe.{OutPipe}
 use Rattle.dwc2_fifo.specs.Words.{word_count, words_of}
 use Rattle.dwc2_fifo.specs.Rx.{Entry, room_of}
 use Rattle.device_table.specs.State.{Table, out_end, no_out_end}
-use Rattle.device_table.specs.Words.{kind_of, number_of, pid_of, status_word, out_data, same_toggle}
+use Rattle.device_table.specs.Words.{kind_of, number_of, pid_of, status_word, out_data}
 use Rattle.device_table.specs.Bus.{OutOutcome, unheard, naks, stalls, drops, lands, InOutcome, unheard_in, naks_in, stalls_in, sends, has_room, hears, hears_setup, out_outcome, in_outcome, after_out, after_in, after_bus, after_setup, out_entries, setup_entries}
 use Rattle.device_table.specs.Laws.{OutLeaves}
 use Rattle.device_table.proofs.BusLemmas.{out_leaves}

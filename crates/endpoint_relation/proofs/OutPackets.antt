@@ -5,15 +5,14 @@ use Rattle.std.proofs.lemmas.Bool.Decides.{nat_tests}
 use Rattle.usb_packet.specs.declared.bus.Toggle.{Toggle}
 use Rattle.usb_packet.specs.declared.bus.Toggle.TheVariants.{D0, D1}
 use Rattle.usb_packet.specs.declared.bus.BusAnswer.TheVariants as answers
+use Rattle.usb_packet.specs.Toggles.{flipped, same_toggle}
 use Rattle.usb_descriptor.specs.declared.endpoint.Endpoint.{Endpoint}
 use Rattle.usb_descriptor.specs.Set.{is_core}
 use Rattle.device_arrivals.specs.Arrivals.{Landed}
 use Rattle.usb_ring.specs.Ring.{Ring}
-use Rattle.device_pipe.specs.Toggles as pipe_toggles
 use Rattle.device_pipe.specs.OutPipe as pipe
 use Rattle.device_pipe.specs.OutPipe.{OutPhase, OutPipe, is_ack, answer_at, after_packet}
 use Rattle.device_table.specs.State.{OutEnd}
-use Rattle.device_table.specs.Words.{flipped, same_toggle}
 use Rattle.device_table.specs.Bus as table
 use Rattle.device_table.specs.Bus.{OutOutcome, unheard, naks, stalls, drops, lands, out_landed}
 use Rattle.endpoint_relation.specs.declared.out_.OutState.{OutState}
@@ -147,12 +146,8 @@ ready_answers true true same = refl
 ready_answers true false true = refl
 ready_answers true false false = refl
 
-flips : (toggle : Toggle) → flipped toggle ≡ pipe_toggles.flipped toggle
-flips D0 = refl
-flips D1 = refl
-
 ready_next : (P : OutEnd → List Landed → OutPipe → Type 0) (end : OutEnd) (bytes held : List ℕ) (notice halt : Bool) (its toggle : Toggle) → P end [] (pipe_of pipe.Armed halt its held)
-    → (notice ≡ true → P (out_landed end) (record { toggle = toggle; bytes = bytes } ∷ []) (pipe_of (pipe.Landed bytes) halt (pipe_toggles.flipped its) held))
+    → (notice ≡ true → P (out_landed end) (record { toggle = toggle; bytes = bytes } ∷ []) (pipe_of (pipe.Landed bytes) halt (flipped its) held))
     → P (end_after (ready notice halt (same_toggle its toggle)) end) (arrived_after (ready notice halt (same_toggle its toggle)) [] toggle bytes)
     (if notice then after_packet (pipe_of pipe.Armed halt its held) toggle bytes else pipe_of pipe.Armed halt its held)
 ready_next P end bytes held false halt its toggle stays moves = stays
@@ -189,7 +184,7 @@ ready_packet number end endpoint halt ring toggle bytes heard below core st =
               registers = landed_registers end endpoint.size (shows_stall s) st.registers;
               software = st.software;
             };
-            pipe = ap (λ t. pipe_of (pipe.Landed bytes) halt t ring.bytes) (flips end.toggle);
+            pipe = refl;
           });
     }
 

@@ -5,6 +5,7 @@ use Rattle.std.proofs.lemmas.Bool.Decides.{nat_tests}
 use Rattle.std.proofs.lemmas.List.{get_or-set_same, set-set, set-get_or}
 use Rattle.usb_packet.specs.declared.bus.Toggle.{Toggle}
 use Rattle.usb_packet.specs.declared.bus.Toggle.TheVariants.{D0, D1}
+use Rattle.usb_packet.specs.Toggles.{same_toggle}
 use Rattle.usb_descriptor.specs.Set.{is_core}
 use Rattle.device_arrivals.specs.Arrivals.{Landed}
 use Rattle.dwc2_regs.specs.declared.TheConstants.{GRXSTSP_BYTES, GRXSTSP_PID}
@@ -14,7 +15,7 @@ use Rattle.dwc2_fifo.specs.Words.{bytes_in, words_of}
 use Rattle.dwc2_fifo.specs.Rx.{Entry, words_behind}
 use Rattle.dwc2_fifo.proofs.WordsLemmas.{bytes_in-words_of}
 use Rattle.device_table.specs.State.{Table, OutEnd, out_end, with_out, no_out_end}
-use Rattle.device_table.specs.Words.{kind_of, number_of, pid_of, status_word, out_data, out_done, same_toggle}
+use Rattle.device_table.specs.Words.{kind_of, number_of, pid_of, status_word, out_data, out_done}
 use Rattle.device_table.specs.Read.{after_read}
 use Rattle.device_table.specs.Write.{after_write, out_control_written, out_interrupts_written}
 use Rattle.device_table.specs.Bus.{OutOutcome, unheard, naks, stalls, drops, lands, has_room, hears, out_outcome, out_answer, after_out, out_entries, out_landed}

@@ -4,6 +4,7 @@ use Rattle.std.specs.Prelude.{ℕ, ◌&&◌, ◌||◌, not, nat_le, Bool, true, 
 use Rattle.usb_packet.specs.declared.bus.Toggle.{Toggle}
 use Rattle.usb_packet.specs.declared.bus.BusAnswer.{BusAnswer}
 use Rattle.usb_packet.specs.declared.bus.BusAnswer.TheVariants as answers
+use Rattle.usb_packet.specs.Toggles.{same_toggle}
 use Rattle.usb_descriptor.specs.declared.endpoint.Endpoint.{Endpoint}
 use Rattle.usb_descriptor.specs.Set.{is_core}
 use Rattle.device_arrivals.specs.Arrivals.{Landed}
@@ -11,7 +12,7 @@ use Rattle.usb_ring.specs.Ring.{Ring, appended, without_first}
 use Rattle.device_pipe.specs.OutPipe.{OutPipe, out_answer, after_packet}
 use Rattle.dwc2_regs.specs.declared.TheConstants.{DOEPCTL_NAKSTS}
 use Rattle.device_table.specs.State.{OutEnd}
-use Rattle.device_table.specs.Words.{flag, control_word, same_toggle}
+use Rattle.device_table.specs.Words.{flag, control_word}
 use Rattle.device_table.specs.Write.{out_control_written, out_interrupts_written}
 use Rattle.device_table.specs.Bus.{OutOutcome, unheard, naks, stalls, drops, lands, out_landed}
 use Rattle.endpoint_relation.specs.declared.out_.OutState.{OutState}

@@ -6,7 +6,7 @@ use Rattle.std.proofs.lemmas.Bool.{cases_Bool}
 use Rattle.std.proofs.lemmas.List.Folds.{concat-append}
 use Rattle.usb_packet.specs.declared.bus.Toggle.{Toggle}
 use Rattle.usb_packet.specs.declared.bus.Toggle.TheVariants.{D0, D1}
-use Rattle.device_pipe.specs.Toggles.{flipped}
+use Rattle.usb_packet.specs.Toggles.{flipped}
 use Rattle.device_pipe.specs.Link.{Fate, Whole, DataLost, HandshakeLost}
 use Rattle.host_pipe.specs.Tries.{Went, Refused, Lost, most_tries}
 use Rattle.host_pipe.specs.InPipe.{InPhase, Closed, Rest, Running, Landed, Posted, Halted, Dead, Clearing, Came, Stalled, Unheard, Irq, Task, Starts, Reads}

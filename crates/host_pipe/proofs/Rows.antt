@@ -4,7 +4,7 @@ use Rattle.std.specs.Prelude.{nat_le, nat_lt}
 use Rattle.std.proofs.lemmas.Bool.{cases_Bool, leb-true, leb-false}
 use Rattle.usb_packet.specs.declared.bus.Toggle.{Toggle}
 use Rattle.usb_packet.specs.declared.bus.BusAnswer.TheVariants as answers
-use Rattle.device_pipe.specs.Toggles.{same_toggle}
+use Rattle.usb_packet.specs.Toggles.{same_toggle}
 use Rattle.host_pipe.specs.Tries.{Went, Refused, Lost, most_tries}
 use Rattle.host_pipe.specs.OutPipe as out
 use Rattle.host_pipe.specs.OutPipe.{OutPipe, OutPhase, OutEvent}

@@ -5,7 +5,7 @@ use Rattle.usb_packet.specs.declared.bus.Toggle.{Toggle}
 use Rattle.usb_packet.specs.declared.bus.Toggle.TheVariants.{D0}
 use Rattle.usb_packet.specs.declared.bus.BusAnswer.{BusAnswer}
 use Rattle.usb_packet.specs.declared.bus.BusAnswer.TheVariants as answers
-use Rattle.device_pipe.specs.Toggles.{flipped}
+use Rattle.usb_packet.specs.Toggles.{flipped}
 use Rattle.device_pipe.specs.Link.{Fate, arrives, is_whole}
 use Rattle.host_pipe.specs.InPipe.{InPipe, InDeed, Irq, Task, Starts, Reads, in_sent, after_xact, acknowledges, after_deed, opened}
 use Rattle.host_pipe.specs.OutLink.{Attitude, Takes, Waits, Stalls}

@@ -4,7 +4,7 @@ use Rattle.std.specs.List.{concat}
 use Rattle.usb_packet.specs.declared.bus.Toggle.{Toggle}
 use Rattle.usb_packet.specs.declared.bus.BusAnswer.{BusAnswer}
 use Rattle.usb_packet.specs.declared.bus.BusAnswer.TheVariants as answers
-use Rattle.device_pipe.specs.Toggles.{flipped, same_toggle}
+use Rattle.usb_packet.specs.Toggles.{flipped, same_toggle}
 use Rattle.host_pipe.specs.Tries.{Went, Refused, Lost}
 use Rattle.host_pipe.specs.OutPipe as out
 use Rattle.host_pipe.specs.OutPipe.{OutPipe, OutPhase, OutDeed, OutEvent, Unheard, result_of}

@@ -5,7 +5,7 @@ use Rattle.usb_packet.specs.declared.bus.Toggle.{Toggle}
 use Rattle.usb_packet.specs.declared.bus.Toggle.TheVariants.{D0}
 use Rattle.usb_packet.specs.declared.bus.BusAnswer.{BusAnswer}
 use Rattle.usb_packet.specs.declared.bus.BusAnswer.TheVariants as answers
-use Rattle.device_pipe.specs.Toggles.{flipped, same_toggle}
+use Rattle.usb_packet.specs.Toggles.{flipped, same_toggle}
 use Rattle.device_pipe.specs.Link.{Fate, arrives, is_whole}
 use Rattle.host_pipe.specs.OutPipe.{OutPipe, OutPhase, Closed, Rest, Running, Landed, Posted, Halted, Dead, Clearing, Acknowledged, Stalled, Unheard, OutDeed, Irq, Task, Starts, Writes, Asks, out_sent, after_xact, after_deed, opened}
 

@@ -5,9 +5,9 @@ use Rattle.std.proofs.lemmas.Bool.{cases_Bool, and_parts, true≢false, false≢
 use Rattle.usb_packet.specs.declared.bus.Toggle.{Toggle}
 use Rattle.usb_packet.specs.declared.bus.BusAnswer.{BusAnswer}
 use Rattle.usb_packet.specs.declared.bus.BusAnswer.TheVariants as answers
+use Rattle.usb_packet.specs.Toggles.{same_toggle}
 use Rattle.dwc2_fifo.specs.Words.{word_count}
 use Rattle.dwc2_fifo.specs.Rx.{room_of}
-use Rattle.device_table.specs.Words.{same_toggle}
 use Rattle.host_table.specs.declared.sent.HostSent.{HostSent}
 use Rattle.host_table.specs.declared.sent.HostSent.TheVariants as sent
 use Rattle.host_table.specs.State.{Table, Channel, Interrupts, no_channel, channel_at}

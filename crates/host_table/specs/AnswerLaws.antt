@@ -3,9 +3,9 @@ use Rattle.std.specs.Prelude.{◌≡◌, ℕ, ◌+◌, ◌<◌, ◌≤◌, true,
 use Rattle.usb_packet.specs.declared.bus.Toggle.{Toggle}
 use Rattle.usb_packet.specs.declared.bus.BusAnswer.{BusAnswer}
 use Rattle.usb_packet.specs.declared.bus.BusAnswer.TheVariants as answers
+use Rattle.usb_packet.specs.Toggles.{same_toggle}
 use Rattle.dwc2_fifo.specs.Words.{word_count}
 use Rattle.dwc2_fifo.specs.Rx.{room_of}
-use Rattle.device_table.specs.Words.{same_toggle}
 use Rattle.device_table.specs.Bus.{out_entries}
 use Rattle.host_table.specs.State.{Table, Interrupts, channel_at, with_channel}
 use Rattle.host_table.specs.Words.{is_in, toggle_of, packet_size}

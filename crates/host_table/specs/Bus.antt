@@ -3,10 +3,10 @@ use Rattle.std.specs.Prelude.{ℕ, suc, ◌+◌, ◌==◌, ◌&&◌, not, nat_lt
 use Rattle.usb_packet.specs.declared.bus.Toggle.{Toggle}
 use Rattle.usb_packet.specs.declared.bus.BusAnswer.{BusAnswer}
 use Rattle.usb_packet.specs.declared.bus.BusAnswer.TheVariants as answers
+use Rattle.usb_packet.specs.Toggles.{same_toggle}
 use Rattle.dwc2_fifo.specs.Words.{word_count}
 use Rattle.dwc2_fifo.specs.Rx.{room_of}
 use Rattle.dwc2_fifo.specs.Tx.{first_with}
-use Rattle.device_table.specs.Words.{same_toggle}
 use Rattle.device_table.specs.Bus.{out_entries}
 use Rattle.host_table.specs.declared.sent.HostSent.{HostSent}
 use Rattle.host_table.specs.declared.sent.HostSent.TheVariants as sent
