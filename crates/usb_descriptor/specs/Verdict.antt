@@ -1,5 +1,6 @@
 -- The eighteen rules in their order, and the first that a set breaks.
-use Rattle.std.specs.Prelude.{ℕ, ◌+◌, ◌*◌, List, [], ◌∷◌, Bool, not, ◌==◌, ◌&&◌, ◌||◌, nat_le, length, slice_index, Option, Some, None, is_some, if◌then◌else◌, count_by}
+use Rattle.std.specs.Prelude.{ℕ, List, [], ◌∷◌, Bool, not, ◌==◌, ◌&&◌, ◌||◌, nat_le, length, slice_index, Option, Some, None, is_some, if◌then◌else◌, count_by}
+use Rattle.usb_packet.specs.Setup.{word_at}
 use Rattle.descriptor_row.specs.declared.descriptor.Descriptor.{Descriptor}
 use Rattle.usb_descriptor.specs.declared.limits.EpLimits.{EpLimits}
 use Rattle.usb_descriptor.specs.declared.limits.SetFault.{SetFault}
@@ -29,10 +30,6 @@ device_fault device =
     earlier (fault_if 1 (not ((length device == 18) && ((slice_index device 0 == 18) && (slice_index device 1 == 1)))))
     (earlier (fault_if 2 (not (slice_index device 7 == 64)))
     (fault_if 3 (slice_index device 17 == 0)))
-
--- two bytes, the lower one first
-abbrev pub word_at : List ℕ → ℕ → ℕ
-word_at bytes at = slice_index bytes at + 256 * slice_index bytes (at + 1)
 
 -- 4: the configuration has 9 to 512 bytes, and its descriptor 9 and type 2. 5: wTotalLength is its length.
 -- 6: bConfigurationValue isn't 0 (9.6.3)

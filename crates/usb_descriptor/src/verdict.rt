@@ -1,5 +1,6 @@
 ghost use Rattle.std.specs.Prelude.{◌≡◌, ◌<◌, ◌≤◌, ◌+◌, length, filter, IfNone, slice_index};
-ghost use Rattle.usb_descriptor.specs.Verdict.{fault_if, fault_at, device_fault, word_at, config_fault, row_fault, rule_fault, rules, first_fault, verdict};
+ghost use Rattle.usb_packet.specs.Setup.{word_at};
+ghost use Rattle.usb_descriptor.specs.Verdict.{fault_if, fault_at, device_fault, config_fault, row_fault, rule_fault, rules, first_fault, verdict};
 ghost use Rattle.descriptor_row.specs.Row.{row_of, row_end};
 ghost use Rattle.descriptor_row.specs.Kinds.{is_endpoint, left_of};
 
