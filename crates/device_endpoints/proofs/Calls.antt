@@ -1,6 +1,7 @@
 -- Each call of the driver is the device's.
 use Rattle.std.proofs.Common.{◌≡◌, ℕ, ◌<◌, List, [], ◌++◌, Bool, true, false, None, refl, ap, sym, ◌∙◌, subst}
 use Rattle.std.specs.Prelude.{◌||◌, ◌&&◌, not, IsTrue}
+use Rattle.std.proofs.lemmas.Bool.{or_right}
 use Rattle.device_machine.specs.declared.control.Side.{Side}
 use Rattle.device_machine.specs.declared.control.Side.TheVariants.{Off, Wait, Loaded, Last, Armed, Stall, Finished}
 use Rattle.device_machine.specs.Bus.{Bus}
@@ -16,7 +17,7 @@ use Rattle.device_endpoints.specs.Relation.{is_came, was_heard, was_packet, is_s
 use Rattle.device_endpoints.specs.Port.{Port, StandsFor, may_start, started, armed, stalled, addressed}
 use Rattle.device_endpoints.specs.Run.{unstalled, out_armed, run_start, run_arm, run_stall, run_address}
 use Rattle.device_endpoints.proofs.SetupEvents.{never, no_packet}
-use Rattle.device_endpoints.proofs.OutEvents.{or_true, and_false, setup_lies_is}
+use Rattle.device_endpoints.proofs.OutEvents.{and_false, setup_lies_is}
 use Rattle.device_endpoints.proofs.Loads.{Arms, arms, armed_out0}
 
 -- a side at which a call may come
@@ -211,7 +212,7 @@ stall_for j p f may =
       stands = turned t s p.bus new.in0 new.out0 ready.Stall Stall st may
           (record { kept = refl; stall = refl; enabled = stays _ ∙ st.ins.enabled ∙ c.loaded; ready = never _ refl; holds = st.ins.holds ∙ ap tx_holding c.bytes; size = never _ refl })
           (record { kept = refl; stall = refl; enabled = stays _ ∙ st.outs.enabled ∙ c.armed; naks = never _ refl; toggle = st.outs.toggle; lies = λ h. nak_stays _ _ ∙ st.outs.lies h })
-          stall_stall refl (or_true _) no_packet refl refl refl;
+          stall_stall refl (or_right _ true refl) no_packet refl refl refl;
       heard = f.heard;
       next_address = refl;
       reset = f.reset;

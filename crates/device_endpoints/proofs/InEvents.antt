@@ -1,6 +1,7 @@
 -- A token for the device on the bus.
 use Rattle.std.proofs.Common.{◌≡◌, ℕ, suc, ◌-◌, ◌≤◌, List, [], ◌∷◌, ◌++◌, length, Bool, true, false, Option, Some, None, refl, ap, sym, ◌∙◌, arith, subst}
 use Rattle.std.specs.Prelude.{◌||◌, ◌&&◌, not, ◌==◌, if◌then◌else◌, IsTrue}
+use Rattle.std.proofs.lemmas.Bool.{or_right}
 use Rattle.usb_packet.specs.declared.bus.Toggle.{Toggle}
 use Rattle.usb_packet.specs.declared.bus.Toggle.TheVariants.{D0, D1}
 use Rattle.usb_packet.specs.declared.bus.BusAnswer.TheVariants as answers
@@ -26,7 +27,7 @@ use Rattle.device_endpoints.specs.Relation.{Stands, Pair, off_off, wait_wait, lo
 use Rattle.device_endpoints.specs.Relation.{stall_stall, loaded_off, last_off, armed_off, stall_off, IsPacket, bytes_of_side, loaded_bytes, is_loaded, is_armed, is_stalled, is_idle}
 use Rattle.device_endpoints.specs.Relation.{was_heard, is_seen, is_taken, toggle_of, some_lie, came_arrivals, setups_arrivals, tx_holding, one_packet}
 use Rattle.device_endpoints.proofs.SetupEvents.{hears_is, never, no_packet, not_zero}
-use Rattle.device_endpoints.proofs.OutEvents.{setup_lies_is, not_not, or_true, and_false}
+use Rattle.device_endpoints.proofs.OutEvents.{setup_lies_is, not_not, and_false}
 
 -- the outcome, by what the parts fix
 abbrev outcome_by : (heard waits stall enabled nak : Bool) → Option (List ℕ) → InOutcome
@@ -109,12 +110,12 @@ outcome_is t s m addr st =
 -- its toggle
 
 loaded_seen : (waits : Bool) (heard : Heard) (side : Side) → (was_heard heard || is_idle side) ≡ true → IsTrue (is_loaded side) → is_seen waits heard ≡ true
-loaded_seen waits heard (Loaded p) e h = ap (λ x. waits || x) (or_nothing (was_heard heard) e) ∙ or_true waits
+loaded_seen waits heard (Loaded p) e h = ap (λ x. waits || x) (or_nothing (was_heard heard) e) ∙ or_right waits true refl
   where
     or_nothing : (b : Bool) → (b || false) ≡ true → b ≡ true
     or_nothing true e = refl
     or_nothing false e = e
-loaded_seen waits heard (Last p) e h = ap (λ x. waits || x) (or_nothing (was_heard heard) e) ∙ or_true waits
+loaded_seen waits heard (Last p) e h = ap (λ x. waits || x) (or_nothing (was_heard heard) e) ∙ or_right waits true refl
   where
     or_nothing : (b : Bool) → (b || false) ≡ true → b ≡ true
     or_nothing true e = refl

@@ -1,6 +1,7 @@
 -- A packet from the host on the bus.
 use Rattle.std.proofs.Common.{◌≡◌, ℕ, suc, ◌+◌, ◌≤◌, List, [], ◌∷◌, ◌++◌, length, Bool, true, false, refl, ap, sym, ◌∙◌, arith, subst}
 use Rattle.std.specs.Prelude.{◌||◌, ◌&&◌, not, ◌==◌, if◌then◌else◌, nat_le, IsTrue}
+use Rattle.std.proofs.lemmas.Bool.{or_right}
 use Rattle.std.proofs.lemmas.Bool.Decides.{nat_tests}
 use Rattle.usb_packet.specs.declared.bus.Toggle.{Toggle}
 use Rattle.usb_packet.specs.declared.bus.Toggle.TheVariants.{D0, D1}
@@ -190,10 +191,6 @@ pub none_lie : (us : List (List ℕ)) → some_lie us ≡ false → us ≡ []
 none_lie [] e = refl
 none_lie (u ∷ us) e = never true e refl
 
-pub or_true : (b : Bool) → (b || true) ≡ true
-or_true true = refl
-or_true false = refl
-
 pub and_false : (b : Bool) → (b && false) ≡ false
 and_false true = refl
 and_false false = refl
@@ -215,7 +212,7 @@ land_stands t s m bytes st h awake lie ar =
       outs = record { kept = st.outs.kept; stall = st.outs.stall ∙ r.stall; enabled = refl; naks = never _ refl; toggle = never _ (and_false _); lies = λ _. refl };
       pair = pair_lands bytes st.pair ar;
       side = record {
-        taken_is = sym (ap (λ w. not w && (was_packet s.heard || true)) lie ∙ or_true (was_packet s.heard));
+        taken_is = sym (ap (λ w. not w && (was_packet s.heard || true)) lie ∙ or_right (was_packet s.heard) true refl);
         toggle_is = st.side.toggle_is;
         first = ap (λ i. was_heard s.heard || i) (sym r.idle) ∙ st.side.first;
         packet = h;

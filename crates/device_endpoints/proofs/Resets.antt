@@ -1,6 +1,7 @@
 -- A handler run that serves a reset.
 use Rattle.std.proofs.Common.{◌≡◌, ℕ, zero, suc, ◌+◌, ◌-◌, ◌*◌, ◌<◌, ◌≤◌, List, [], ◌∷◌, ◌++◌, length, map, Bool, true, false, refl, ap, sym, ◌∙◌, arith, subst, All, ext_get_or}
 use Rattle.std.specs.Prelude.{◌||◌, ◌&&◌, ◌==◌, if◌then◌else◌, slice_index_or, replicate}
+use Rattle.std.proofs.lemmas.Bool.{or_right}
 use Rattle.std.proofs.lemmas.Bool.Decides.{nat_tests}
 use Rattle.std.proofs.lemmas.List.{length-map}
 use Rattle.std.proofs.lemmas.List.Elements.{All-head, All-tail}
@@ -34,7 +35,7 @@ use Rattle.device_endpoints.specs.PipeRelation.{PipesStand, OutPipePart, InPipeP
 use Rattle.device_endpoints.specs.Port.{Port, StandsFor, AllStandFor, port_reset}
 use Rattle.device_endpoints.specs.Run.{popped_all, pipes_closed, all_cleared, reset_served, flush_all, reset_bits}
 use Rattle.device_endpoints.proofs.SetupEvents.{never, no_packet}
-use Rattle.device_endpoints.proofs.OutEvents.{or_true, and_false}
+use Rattle.device_endpoints.proofs.OutEvents.{and_false}
 use Rattle.device_endpoints.proofs.Entries.{requests_are}
 use Rattle.device_endpoints.proofs.Taken.{epdis_ends}
 use Rattle.device_endpoints.proofs.Pops.{rx_as, is_status}
@@ -171,7 +172,7 @@ pub whole : (t : Table) (ins : Three t.ins) (outs : Three t.outs) → t ≡ with
 whole t ins outs = ap (λ xs. record t { ins = xs }) ins.is ∙ ap (λ xs. record t { ins = ins.a ∷ ins.b ∷ ins.c ∷ []; outs = xs }) outs.is
 
 wakes : (awake reset : Bool) → reset ≡ true → (awake || (reset && true)) ≡ true
-wakes awake true e = or_true awake
+wakes awake true e = or_right awake true refl
 wakes awake false e = never true (sym e) refl
 
 first_true : (a r : Bool) → (a && r) ≡ false → r ≡ true → a ≡ false

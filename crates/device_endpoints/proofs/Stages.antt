@@ -1,5 +1,6 @@
 -- A packet that the host acknowledged, at a handler run.
 use Rattle.std.proofs.Common.{◌≡◌, ℕ, ◌<◌, Bool, true, false, Option, Some, None, refl, ap, sym, arith, subst}
+use Rattle.std.proofs.lemmas.Bool.{or_right}
 use Rattle.device_machine.specs.declared.control.Stage.TheVariants.{Sent}
 use Rattle.device_machine.specs.declared.control.Side.{Side}
 use Rattle.device_machine.specs.declared.control.Side.TheVariants.{Off, Finished}
@@ -18,7 +19,6 @@ use Rattle.device_endpoints.specs.Relation.{Stands, Pair, off_off, loaded_sent, 
 use Rattle.device_endpoints.specs.Port.{Port, StandsFor, with_stage, with_address}
 use Rattle.device_endpoints.specs.Run.{cleared_ack, sent_noted, address_served, address_word, acknowledged}
 use Rattle.device_endpoints.proofs.SetupEvents.{never, no_packet}
-use Rattle.device_endpoints.proofs.OutEvents.{or_true}
 
 -- the bits that a run reads
 
@@ -90,7 +90,7 @@ sent_off t s m n is st = record {
   ins = record { kept = st.ins.kept; stall = st.ins.stall; enabled = st.ins.enabled; ready = never _ refl; holds = st.ins.holds; size = never _ refl };
   outs = record { kept = st.outs.kept; stall = st.outs.stall; enabled = st.outs.enabled; naks = never _ refl; toggle = st.outs.toggle; lies = st.outs.lies };
   pair = off_off;
-  side = record { taken_is = st.side.taken_is; toggle_is = st.side.toggle_is; first = or_true (was_heard s.heard); packet = no_packet; alone = st.side.alone };
+  side = record { taken_is = st.side.taken_is; toggle_is = st.side.toggle_is; first = or_right (was_heard s.heard) true refl; packet = no_packet; alone = st.side.alone };
   rx = record { arrivals = st.rx.arrivals; lie = st.rx.lie; its = st.rx.its; all = st.rx.all; counts = st.rx.counts; few = st.rx.few; are = st.rx.are };
   rest = st.rest;
   core = record { awake = st.core.awake; reset = st.core.reset; address = st.core.address; landed = st.core.landed; asleep = st.core.asleep; next = is };

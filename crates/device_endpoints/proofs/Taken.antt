@@ -1,6 +1,7 @@
 -- What a packet and a SETUP leave, once they are taken from the receive FIFO.
 use Rattle.std.proofs.Common.{◌≡◌, ℕ, List, [], ◌∷◌, Bool, true, false, refl, ap, sym, ◌∙◌, arith}
 use Rattle.std.specs.Prelude.{◌||◌, ◌&&◌, not, IsTrue}
+use Rattle.std.proofs.lemmas.Bool.{or_right}
 use Rattle.device_machine.specs.declared.control.Stage.TheVariants.{Came}
 use Rattle.device_machine.specs.declared.control.Side.{Side}
 use Rattle.device_machine.specs.declared.control.Side.TheVariants.{Off, Wait, Loaded, Last, Armed, Stall, Finished}
@@ -11,14 +12,14 @@ use Rattle.device_arrivals.specs.Arrivals.{Arrival, entries_of, arrivals_for, Ar
 use Rattle.device_endpoints.specs.Software.{Software}
 use Rattle.device_endpoints.specs.Relation.{Stands, off_off, loaded_bytes, is_loaded, was_heard, was_packet, toggle_of, some_lie, setups_arrivals, tx_holding}
 use Rattle.device_endpoints.proofs.SetupEvents.{never, no_packet}
-use Rattle.device_endpoints.proofs.OutEvents.{or_true, and_false}
+use Rattle.device_endpoints.proofs.OutEvents.{and_false}
 use Rattle.device_endpoints.proofs.Pops.{rx_as, came_table, came_software, setup_table, setup_software}
 
 -- a packet
 
 pub came_toggle : (waits heard packet taken : Bool) → taken ≡ (not waits && (packet || true)) → IsTrue ((waits || true) && not taken) → IsTrue ((waits || heard) && not taken)
 came_toggle true heard packet taken e h = h
-came_toggle false heard packet taken e h = never _ (ap not (e ∙ or_true packet)) h
+came_toggle false heard packet taken e h = never _ (ap not (e ∙ or_right packet true refl)) h
 
 pub or_nothing : (b : Bool) → (b || false) ≡ true → b ≡ true
 or_nothing true e = refl
@@ -42,7 +43,7 @@ came_off t s m bytes arrivals st its all =
       };
       pair = off_off;
       side = record {
-        taken_is = st.side.taken_is ∙ ap (λ x. not waits && x) (or_true (was_packet s.heard));
+        taken_is = st.side.taken_is ∙ ap (λ x. not waits && x) (or_right (was_packet s.heard) true refl);
         toggle_is = st.side.toggle_is ∙ ap (λ x. toggle_of (waits || x) t.in0.toggle) hears;
         first = refl;
         packet = no_packet;
@@ -93,7 +94,7 @@ setup_off t s m bytes us arrivals st its all =
       pair = off_off;
       side = record {
         taken_is = st.side.taken_is ∙ sym (and_false (not (some_lie us)));
-        toggle_is = st.side.toggle_is ∙ ap (λ x. toggle_of x t.in0.toggle) (sym (or_true (some_lie us)));
+        toggle_is = st.side.toggle_is ∙ ap (λ x. toggle_of x t.in0.toggle) (sym (or_right (some_lie us) true refl));
         first = refl;
         packet = no_packet;
         alone = and_false _;

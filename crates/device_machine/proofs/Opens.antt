@@ -2,6 +2,7 @@
 use Rattle.std.proofs.Common.{◌≡◌, ◌≢◌, ℕ, zero, suc, ◌+◌, ◌-◌, ◌<◌, List, [], ◌∷◌, length, map, replicate, Bool, true, false, ◌||◌, ◌==◌, if◌then◌else◌, Option, Some, None, refl, ap, sym, ◌∙◌, arith, subst}
 use Rattle.std.specs.Prelude.{slice_index_or, slice_set, nat_lt}
 use Rattle.std.specs.List.{list_any}
+use Rattle.std.proofs.lemmas.Bool.{or_right}
 use Rattle.std.proofs.lemmas.Bool.Decides.{nat_tests}
 use Rattle.std.proofs.lemmas.List.{get_or-set_other, length-set, length-map, length-replicate}
 use Rattle.std.proofs.lemmas.Grind.{get_or-set_at}
@@ -96,10 +97,6 @@ opens_out e s = ap (λ b. record { endpoint = e; opens = b }) (by (out.leaves_pa
 opens_in : (e : Endpoint) (s : InSlot) → in_opened (opened_in e s) ≡ at e true
 opens_in e s = refl
 
-or_true : (b : Bool) → (b || true) ≡ true
-or_true true = refl
-or_true false = refl
-
 or_false : (b : Bool) → (b || false) ≡ b
 or_false true = refl
 or_false false = refl
@@ -115,11 +112,11 @@ stays_in : (s : InSlot) → in_opened s ≡ at s.endpoint (in_hears s || false)
 stays_in s = ap (at s.endpoint) (sym (or_false (in_hears s)))
 
 out_choice : (e : Endpoint) (s : OutSlot) (b : Bool) → out_opened (if b then opened_out e s else s) ≡ at (if b then e else s.endpoint) (is_out_open s.pipe.phase || b)
-out_choice e s true = opens_out e s ∙ ap (at e) (sym (or_true (is_out_open s.pipe.phase)))
+out_choice e s true = opens_out e s ∙ ap (at e) (sym (or_right (is_out_open s.pipe.phase) true refl))
 out_choice e s false = stays_out s
 
 in_choice : (e : Endpoint) (s : InSlot) (b : Bool) → in_opened (if b then opened_in e s else s) ≡ at (if b then e else s.endpoint) (in_hears s || b)
-in_choice e s true = opens_in e s ∙ ap (at e) (sym (or_true (in_hears s)))
+in_choice e s true = opens_in e s ∙ ap (at e) (sym (or_right (in_hears s) true refl))
 in_choice e s false = stays_in s
 
 -- what is known of a slot, one level up

@@ -1,5 +1,6 @@
 -- The answers to one line more, and to a schedule as the core's machine alone gives them.
-use Rattle.std.proofs.Common.{◌≡◌, ℕ, ◌%◌, List, [], ◌∷◌, ◌++◌, Bool, true, false, ◌||◌, Option, None, Some, refl, ap, ◌∙◌, append_assoc, eqb}
+use Rattle.std.proofs.Common.{◌≡◌, ℕ, ◌%◌, List, [], ◌∷◌, ◌++◌, Bool, true, false, Option, None, Some, refl, ap, ◌∙◌, append_assoc, eqb}
+use Rattle.std.proofs.lemmas.Bool.{or_right}
 use Rattle.std.proofs.lemmas.List.{append-nil}
 use Rattle.std.specs.Prelude.{if◌then◌else◌, ◌==◌}
 use Rattle.usb_packet.specs.declared.bus.Owner.{Owner}
@@ -22,12 +23,8 @@ core_takes_setup : (set : Set) (kind n : ℕ)
     → (if kind % 32 == 1 then owner_of_interface set.config n else (if kind % 32 == 2 then owner_of_endpoint set.config n else owner.Core)) ≡ owner.Core
 core_takes_setup set kind n = core_of_either (kind % 32 == 1) (core_has_interface set.config n) (core_of_either (kind % 32 == 2) (core_has_endpoint set.config n) refl)
 
-or_true : (b : Bool) → (b || true) ≡ true
-or_true true = refl
-or_true false = refl
-
 sees_any : (set : Set) (ep address : ℕ) → sees_packet set owner.Core ep address ≡ true
-sees_any set ep address = rw (core_has_endpoint set.config address) (or_true (eqb ep 0))
+sees_any set ep address = rw (core_has_endpoint set.config address) (or_right (eqb ep 0) true refl)
 
 core_sees : (set : Set) (line : DevLine) → sees set owner.Core line ≡ true
 core_sees set (Bus event.Reset) = refl

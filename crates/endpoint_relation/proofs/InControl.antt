@@ -1,6 +1,7 @@
 -- What the words that are written to DIEPCTLx do.
 use Rattle.std.proofs.Common.{◌≡◌, ℕ, ◌+◌, ◌*◌, ◌^◌, ◌<◌, ◌≤◌, Bool, true, false, refl, ap, ◌∙◌, arith, subst}
 use Rattle.std.specs.Prelude.{◌/◌, ◌%◌, ◌==◌, ◌&&◌, ◌||◌, not}
+use Rattle.std.proofs.lemmas.Bool.{or_right}
 use Rattle.usb_descriptor.specs.declared.endpoint.Endpoint.{Endpoint}
 use Rattle.usb_descriptor.specs.declared.endpoint.EpKind.{EpKind}
 use Rattle.usb_descriptor.specs.declared.endpoint.EpKind.TheVariants.{Bulk, Interrupt}
@@ -92,10 +93,6 @@ with_acts : (number : ℕ) (e : Endpoint) (st cn sn sd ed ee : Bool) (acts : ℕ
 with_acts number e st cn sn sd ed ee acts c few small is =
     written_bits c (in_base number e st + acts) (in_open_bits number e) st cn sn sd ed ee (bits_with number e st cn sn sd ed ee acts few small is)
 
-or_true : (b : Bool) → (b || true) ≡ true
-or_true true = refl
-or_true false = refl
-
 pub or_false : (b : Bool) → (b || false) ≡ b
 or_false true = refl
 or_false false = refl
@@ -117,8 +114,8 @@ pub snak_epena_is : (number : ℕ) (e : Endpoint) (st : Bool) (c : Control) → 
     → control_written true c (in_base number e st + in_snak_epena) ≡ control_is (in_open_bits number e) true st true
 snak_epena_is number e st c few small =
     with_acts number e st false true false false true in_snak_epena c few small refl
-    ∙ ap (λ x. control_is (in_open_bits number e) (x && true) st ((c.enabled && true) || true)) (or_true c.nak)
-    ∙ ap (control_is (in_open_bits number e) true st) (or_true (c.enabled && true))
+    ∙ ap (λ x. control_is (in_open_bits number e) (x && true) st ((c.enabled && true) || true)) (or_right c.nak true refl)
+    ∙ ap (control_is (in_open_bits number e) true st) (or_right (c.enabled && true) true refl)
 
 pub cnak_is : (number : ℕ) (e : Endpoint) (st : Bool) (c : Control) → e.size ≤ 64 → number ≤ 15
     → control_written true c (in_base number e st + in_cnak) ≡ control_is (in_open_bits number e) false st c.enabled
@@ -138,27 +135,27 @@ pub snak_epdis_is : (number : ℕ) (e : Endpoint) (st : Bool) (c : Control) → 
     → control_written true c (in_base number e st + in_snak_epdis) ≡ control_is (in_open_bits number e) true st false
 snak_epdis_is number e st c few small =
     with_acts number e st false true false true false in_snak_epdis c few small refl
-    ∙ ap (λ x. control_is (in_open_bits number e) (x && true) st ((c.enabled && false) || false)) (or_true c.nak)
+    ∙ ap (λ x. control_is (in_open_bits number e) (x && true) st ((c.enabled && false) || false)) (or_right c.nak true refl)
     ∙ ap (λ x. control_is (in_open_bits number e) true st (x || false)) (and_false c.enabled)
 
 pub snak_sd0pid_epdis_is : (number : ℕ) (e : Endpoint) (st : Bool) (c : Control) → e.size ≤ 64 → number ≤ 15
     → control_written true c (in_base number e st + in_snak_sd0pid_epdis) ≡ control_is (in_open_bits number e) true st false
 snak_sd0pid_epdis_is number e st c few small =
     with_acts number e st false true true true false in_snak_sd0pid_epdis c few small refl
-    ∙ ap (λ x. control_is (in_open_bits number e) (x && true) st ((c.enabled && false) || false)) (or_true c.nak)
+    ∙ ap (λ x. control_is (in_open_bits number e) (x && true) st ((c.enabled && false) || false)) (or_right c.nak true refl)
     ∙ ap (λ x. control_is (in_open_bits number e) true st (x || false)) (and_false c.enabled)
 
 pub snak_sd0pid_is : (number : ℕ) (e : Endpoint) (st : Bool) (c : Control) → e.size ≤ 64 → number ≤ 15
     → control_written true c (in_base number e st + in_snak_sd0pid) ≡ control_is (in_open_bits number e) true st c.enabled
 snak_sd0pid_is number e st c few small =
     with_acts number e st false true true false false in_snak_sd0pid c few small refl
-    ∙ ap (λ x. control_is (in_open_bits number e) (x && true) st ((c.enabled && true) || false)) (or_true c.nak)
+    ∙ ap (λ x. control_is (in_open_bits number e) (x && true) st ((c.enabled && true) || false)) (or_right c.nak true refl)
     ∙ ap (λ x. control_is (in_open_bits number e) true st x) (or_false (c.enabled && true) ∙ and_true c.enabled)
 
 -- a closed endpoint keeps nothing
 pub closed_is : (c : Control) → control_written true c in_snak_epdis ≡ control_is 0 true false false
 closed_is c =
-    ap (λ x. control_is 0 (x && true) false ((c.enabled && false) || false)) (or_true c.nak)
+    ap (λ x. control_is 0 (x && true) false ((c.enabled && false) || false)) (or_right c.nak true refl)
     ∙ ap (λ x. control_is 0 true false (x || false)) (and_false c.enabled)
 
 -- whether the next packet gets DATA0

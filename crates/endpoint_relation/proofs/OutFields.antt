@@ -1,6 +1,7 @@
 -- What a control word of an OUT endpoint says, and what its write leaves in the registers.
 use Rattle.std.proofs.Common.{◌≡◌, ℕ, ◌+◌, ◌*◌, ◌^◌, ◌<◌, ◌≤◌, List, [], ◌∷◌, Bool, true, false, inr, refl, ap, ◌∙◌, arith, subst}
 use Rattle.std.specs.Prelude.{◌||◌, ◌&&◌, not, ◌==◌, if◌then◌else◌, IsTrue}
+use Rattle.std.proofs.lemmas.Bool.{or_right}
 use Rattle.std.proofs.lemmas.Bool.Decides.{nat_tests}
 use Rattle.usb_packet.specs.declared.bus.Toggle.TheVariants.{D0}
 use Rattle.usb_descriptor.specs.declared.endpoint.EpKind.{EpKind}
@@ -171,10 +172,6 @@ pub and_true : (b : Bool) → (b && true) ≡ b
 and_true true = refl
 and_true false = refl
 
-or_true : (b : Bool) → (b || true) ≡ true
-or_true true = refl
-or_true false = refl
-
 pub or_false : (b : Bool) → (b || false) ≡ b
 or_false true = refl
 or_false false = refl
@@ -223,11 +220,11 @@ nak_cleared nak = and_false (nak || false)
 pub written_armed : (end : OutEnd) (word size : ℕ) (stalls was : Bool) → Says word size stalls 1 0 0 1 → 1 ≤ size → size ≤ 64
     → Registers end true size stalls was → Registers (out_control_written true (record end { tsiz = one_packet size }) word) true size stalls true
 written_armed end word size stalls was says some most r =
-    written (record end { tsiz = one_packet size }) word size stalls 1 0 0 1 true says some most (or_true (end.control.enabled && true)) (nak_cleared end.control.nak) (λ _. refl) r.xfrc r.epdisd
+    written (record end { tsiz = one_packet size }) word size stalls 1 0 0 1 true says some most (or_right (end.control.enabled && true) true refl) (nak_cleared end.control.nak) (λ _. refl) r.xfrc r.epdisd
 
 -- one that opens
 nak_set : (nak : Bool) → nak_by nak true false ≡ true
-nak_set nak = and_true (nak || true) ∙ or_true nak
+nak_set nak = and_true (nak || true) ∙ or_right nak true refl
 
 pub written_opened : (end : OutEnd) (word size was : ℕ) (stalls was_stalled : Bool) → Says word size stalls 0 1 1 0 → 1 ≤ size → size ≤ 64
     → Registers end false was was_stalled false → Registers (out_control_written true end word) true size stalls false
