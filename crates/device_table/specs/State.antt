@@ -45,7 +45,7 @@ pub record OutEnd : Type 0 where
   pub tsiz : ℕ
 
 -- what the bus has done to the device as a whole
-pub record Core : Type 0 where
+pub record BusState : Type 0 where
   -- the device answers: USBRST was cleared since the last reset
   pub awake : Bool
   -- USBRST and ENUMDNE of GINTSTS
@@ -85,7 +85,7 @@ pub record Host : Type 0 where
   pub channels : List Channel
 
 pub record Table : Type 0 where
-  pub core : Core
+  pub core : BusState
   pub kept : Kept
   pub host : Host
   -- the receive FIFO of all endpoints

@@ -11,7 +11,7 @@ use Rattle.dwc2_regs.specs.Register.{doeptsiz, fifo}
 use Rattle.dwc2_fifo.specs.Words.{word_count}
 use Rattle.dwc2_fifo.specs.Rx.{Entry, empty_of as rx_empty}
 use Rattle.dwc2_fifo.specs.Tx.{space_of, begun_in, with_word, empty_of as tx_empty}
-use Rattle.device_table.specs.State.{Table, Core, Control, InEnd, OutEnd, Channel, in_end, out_end, with_in, with_out}
+use Rattle.device_table.specs.State.{Table, BusState, Control, InEnd, OutEnd, Channel, in_end, out_end, with_in, with_out}
 use Rattle.device_table.specs.Words.{flag, with_flag, cleared, kept_bits, packet_size, transfer_size, setup_data, setup_done, kind_of}
 use Rattle.device_table.specs.Read.{channel_at}
 
@@ -38,7 +38,7 @@ grstctl_written t word =
     tx_flushed (rx_flushed (record t { kept = kept }) (flag word GRSTCTL_RXFFLSH)) (flag word GRSTCTL_TXFFLSH) (field_of word GRSTCTL_TXFNUM)
 
 -- GINTSTS: a 1 clears USBRST and ENUMDNE. Clearing USBRST wakes the device.
-abbrev pub gintsts_written : Core → ℕ → Core
+abbrev pub gintsts_written : BusState → ℕ → BusState
 gintsts_written core word =
     record core {
       awake = core.awake || (core.usbrst && flag word GINTSTS_USBRST);

@@ -5,7 +5,7 @@ ghost use Rattle.device_table.specs.Write.{setup_lies, cnak_acts};
 ghost use Rattle.device_table.specs.Bus.{setup_waits};
 
 use dwc2_fifo::RxFifo;
-use dwc2_state::{CoreState, HostRegisters, InEndpoint, KeptRegisters, OutEndpoint};
+use dwc2_state::{BusState, HostRegisters, InEndpoint, KeptRegisters, OutEndpoint};
 use std::marker::Model;
 
 /// Words of the receive FIFO: three SETUPs, and a packet of 64 bytes with its status for each OUT endpoint.
@@ -19,7 +19,7 @@ const TX_WORDS: u16 = 32;
 /// The controller's registers and FIFOs.
 #[derive(Drop)]
 pub struct Controller {
-    pub core: CoreState,
+    pub core: BusState,
     pub kept: KeptRegisters,
     pub host: HostRegisters,
     pub rx: RxFifo,
@@ -52,7 +52,7 @@ impl Controller {
         let mut rx = RxFifo::new();
         rx.set_depth(RX_WORDS);
         Controller {
-            core: CoreState::new(),
+            core: BusState::new(),
             kept: KeptRegisters::new(),
             host: HostRegisters::new(),
             rx,

@@ -20,4 +20,4 @@ pub use place::{
     ChannelRegister, CoreRegister, DeviceRegister, HostRegister, InRegister, OutRegister, Place,
     place_at,
 };
-pub use registers::{ChannelRegisters, CoreState, HostRegisters, KeptRegisters};
+pub use registers::{BusState, ChannelRegisters, HostRegisters, KeptRegisters};

@@ -17,7 +17,7 @@ use usb_packet::Toggle;
 
 /// What the bus has done to the device as a whole.
 #[derive(Drop)]
-pub struct CoreState {
+pub struct BusState {
     /// The device answers: USBRST was cleared since the last reset.
     pub awake: bool,
     pub usbrst: bool,
@@ -28,20 +28,20 @@ pub struct CoreState {
     pub landed: Option<Toggle>,
 }
 
-impl Model for CoreState {
-    ghost use Rattle.device_table.specs.State.{Core};
+impl Model for BusState {
+    ghost use Rattle.device_table.specs.State.{BusState};
 
-    ghost Value = { Core };
+    ghost Value = { BusState };
 
     ghost view = { λ c. record { awake = c.awake; usbrst = c.usbrst; enumdne = c.enumdne; unserved = c.unserved; landed = c.landed } };
 }
 
-impl CoreState {
+impl BusState {
     /// The device at its start: asleep, with no reset and no SETUP.
-    pub fn new() -> CoreState
+    pub fn new() -> BusState
         ensures { result ≡ (first FS4).core }
     {
-        CoreState {
+        BusState {
             awake: false,
             usbrst: false,
             enumdne: false,
