@@ -350,7 +350,7 @@ clear_lasts x = record {
   control = inr (λ e word h. still e.clear (not (in_enabled e word && not (in_naks e word))) h);
   clear = inl refl;
   size = inr (λ e h. h);
-  look = λ e word h. h;
+  look = λ e word h. still e.clear (not (is_set word DIEPINT_XFRC)) h;
 }
 
 cnak_refused : (o : Order) (x word : ℕ) → x ≤ 11 → (in_of o x).clear ≡ false → (in_of o x).enabled ≡ true → is_set word DIEPCTL_CNAK ≡ true → is_set word DIEPCTL_EPDIS ≡ false

@@ -1,2 +1,6 @@
 pub mod Lists
 pub mod Lasting
+pub mod Frames
+pub mod Phases
+pub mod Leads
+pub mod Starts

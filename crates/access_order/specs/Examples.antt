@@ -77,6 +77,8 @@ pub record InOrderLists : Type 0 where
   pub cleared_before : are_runs unused (load ∷ (acknowledged ++ w 0x910 0x00080000 ∷ w 0x900 0x88000000 ∷ w 0x900 0x04000000 ∷ []) ∷ []) ≡ true
   pub out_pipe : are_runs unused (reset ∷ arm_2 ∷ came_2 ∷ arm_2 ∷ reset ∷ arm_2 ∷ close ∷ arm_2 ∷ []) ≡ true
   pub in_pipe : are_runs unused (reset ∷ clear_1 ∷ load_1 ∷ once_1 ∷ (twice_1 ++ load_1) ∷ close ∷ load_1 ∷ clear_1 ∷ load_1 ∷ reset ∷ []) ≡ true
+  -- before the first transfer of an endpoint other than 0 XFRC is 0
+  pub first : is_run unused load_1 ≡ true
   -- a size that is written again, a run with no access, and ENUMDNE cleared alone
   pub others : are_runs unused ((w 0x910 0x00080001 ∷ load) ∷ [] ∷ (w 0x14 0x2000 ∷ acknowledged) ∷ []) ≡ true
 
@@ -100,9 +102,12 @@ pub record StrayWords : Type 0 where
 
 -- c. XFRC left set, or cleared while a packet may be acknowledged
 pub record StaleXfrc : Type 0 where
-  pub never : is_run unused (w 0x910 0x00080000 ∷ w 0x900 0x88000000 ∷ w 0x900 0x04000000 ∷ []) ≡ false
+  pub at_first : is_run unused (w 0x910 0x00080000 ∷ w 0x900 0x88000000 ∷ w 0x900 0x04000000 ∷ []) ≡ false
+  -- XFRC is shown before CNAK
+  pub shown : is_run unused (w 0x930 0x0010000c ∷ w 0x920 0x88488008 ∷ r 0x928 1 ∷ w 0x920 0x04488008 ∷ []) ≡ false
+  pub never : are_runs unused (load ∷ (r 0x908 1 ∷ w 0x910 0x00080000 ∷ w 0x900 0x88000000 ∷ w 0x900 0x04000000 ∷ []) ∷ []) ≡ false
   pub after_cnak : is_run unused (w 0x910 0x00080000 ∷ w 0x900 0x88000000 ∷ w 0x900 0x04000000 ∷ w 0x908 1 ∷ []) ≡ false
-  pub other_bit : is_run unused (w 0x910 0x00080000 ∷ w 0x900 0x88000000 ∷ w 0x908 2 ∷ w 0x900 0x04000000 ∷ []) ≡ false
+  pub other_bit : are_runs unused (load ∷ (r 0x908 1 ∷ w 0x910 0x00080000 ∷ w 0x900 0x88000000 ∷ w 0x908 2 ∷ w 0x900 0x04000000 ∷ []) ∷ []) ≡ false
   pub unseen : are_runs unused (load ∷ (w 0x908 1 ∷ []) ∷ []) ≡ false
   pub old : are_runs unused (load ∷ (r 0x908 0 ∷ w 0x910 0x00080000 ∷ w 0x900 0x88000000 ∷ w 0x900 0x04000000 ∷ []) ∷ []) ≡ false
   pub at_once : is_run unused (w 0x910 0x00080000 ∷ w 0x900 0x84000000 ∷ w 0x908 1 ∷ []) ≡ false

@@ -28,7 +28,7 @@ pub record InOrder : Type 0 where
   pub enabled : Bool
   -- SNAK was written, and CNAK not since
   pub naks : Bool
-  -- XFRC was cleared, and since then the endpoint couldn't answer with a packet
+  -- XFRC is known to be 0: it was cleared or never set, and since then the endpoint couldn't answer with a packet
   pub clear : Bool
   -- CNAK was written in this run, to the enabled endpoint
   pub loaded : Bool
@@ -113,7 +113,7 @@ in_cleared e word = record e { clear = e.clear || is_set word DIEPINT_XFRC }
 
 -- a read of DIEPINTx: with XFRC the endpoint is disabled. While it answers NAK, XFRC is of the transfer before
 abbrev pub in_read : InOrder → ℕ → InOrder
-in_read e word = record e { enabled = e.enabled && not (is_set word DIEPINT_XFRC && not e.naks) }
+in_read e word = record e { enabled = e.enabled && not (is_set word DIEPINT_XFRC && not e.naks); clear = e.clear && not (is_set word DIEPINT_XFRC) }
 
 -- OUT endpoints.
 
@@ -238,15 +238,16 @@ order_after o (access ∷ accesses) = order_after (after o access) accesses
 
 -- Runs: a handler run or a task run, one after another.
 
--- before the first
+-- Before the first: XFRC is 0 at the controller's start. Of endpoint 0 that isn't taken as known, since XFRC is cleared at each of its
+-- loads.
 abbrev pub no_in : InOrder
-no_in = record { sized = false; enabled = false; naks = false; clear = false; loaded = false }
+no_in = record { sized = false; enabled = false; naks = false; clear = true; loaded = false }
 
 abbrev pub no_out : OutOrder
 no_out = record { sized = false; enabled = false; ended = false }
 
 abbrev pub unused : Order
-unused = record { in0 = no_in; ins = λ _. no_in; out0 = no_out; outs = λ _. no_out; reset = false; woken = false }
+unused = record { in0 = record no_in { clear = false }; ins = λ _. no_in; out0 = no_out; outs = λ _. no_out; reset = false; woken = false }
 
 -- what is said of one run is forgotten at the next
 abbrev pub in_begun : InOrder → InOrder

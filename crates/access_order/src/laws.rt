@@ -22,7 +22,7 @@ pub fn words_want_enabling()
     ensures { WordsWantEnabling }
 {}
 
-/// An IN endpoint whose XFRC isn't known to be 0 is let answer only where DIEPINTx was written.
+/// An enabled IN endpoint whose XFRC isn't known to be 0 is let answer, by CNAK, only where DIEPINTx was written.
 pub fn answering_wants_clear()
     ensures { AnsweringWantsClear }
 {}
