@@ -1,6 +1,7 @@
 -- Each call of the driver is the device's.
 use Rattle.std.proofs.Common.{◌≡◌, ℕ, ◌<◌, List, [], ◌++◌, Bool, true, false, None, refl, ap, sym, ◌∙◌, subst}
 use Rattle.std.specs.Prelude.{◌||◌, ◌&&◌, not, IsTrue}
+use Rattle.std.proofs.lemmas.Bool.{or_right}
 use Rattle.device_machine.specs.declared.control.Side.{Side}
 use Rattle.device_machine.specs.declared.control.Side.TheVariants.{Off, Wait, Loaded, Last, Armed, Stall, Finished}
 use Rattle.device_machine.specs.Bus.{Bus}
@@ -12,11 +13,11 @@ use Rattle.device_relation.specs.declared.software.Ready.TheVariants as ready
 use Rattle.device_relation.specs.Software.{Software, Joint}
 use Rattle.device_relation.specs.Relation.{Stands, InPart, OutPart, Pair, off_off, wait_wait, loaded_loaded, loaded_sent, last_last, last_armed, armed_armed, last_came, armed_came}
 use Rattle.device_relation.specs.Relation.{stall_stall, loaded_off, last_off, armed_off, stall_off, IsPacket, bytes_of_side, loaded_bytes, is_loaded, is_armed, is_stalled, is_idle}
-use Rattle.device_relation.specs.Relation.{is_came, was_heard, was_packet, is_seen, toggle_of, some_lie, came_entries, setups_entries, tx_holding}
+use Rattle.device_relation.specs.Relation.{is_came, was_heard, was_packet, is_seen, toggle_of, some_lie, came_arrivals, setups_arrivals, tx_holding}
 use Rattle.device_relation.specs.Port.{Port, StandsFor, may_start, started, armed, stalled, addressed}
 use Rattle.device_relation.specs.Run.{unstalled, out_armed, run_start, run_arm, run_stall, run_address}
 use Rattle.device_relation.proofs.SetupEvents.{never, no_packet}
-use Rattle.device_relation.proofs.OutEvents.{or_true, and_false, setup_lies_is}
+use Rattle.device_relation.proofs.OutEvents.{and_false, setup_lies_is}
 use Rattle.device_relation.proofs.Loads.{Arms, arms, armed_out0}
 
 -- a side at which a call may come
@@ -24,7 +25,7 @@ record Calls (side : Side) : Type 0 where
   loaded : is_loaded side ≡ false
   armed : is_armed side ≡ false
   bytes : loaded_bytes side ≡ []
-  came : came_entries side ≡ []
+  came : came_arrivals side ≡ []
   none : is_came side ≡ false
 
 calls : (side : Side) → IsTrue (may_start side) → Calls side
@@ -39,7 +40,7 @@ calls (Finished s) h = never _ refl h
 -- the device from there on, with this on endpoint 0
 turned : (t : Table) (s : Software) (m : Bus) (i : InEnd) (o : OutEnd) (r : Ready) (side : Side) → Stands FS4 t s m → IsTrue (may_start m.side)
     → InPart i side → OutPart o side (some_lie m.unserved) (is_seen (some_lie m.unserved) s.heard) m.taken → Pair i.xfrc r side → i.toggle ≡ t.in0.toggle
-    → (was_heard s.heard || is_idle side) ≡ true → IsPacket (bytes_of_side side) → is_loaded side ≡ false → is_came side ≡ false → came_entries side ≡ []
+    → (was_heard s.heard || is_idle side) ≡ true → IsPacket (bytes_of_side side) → is_loaded side ≡ false → is_came side ≡ false → came_arrivals side ≡ []
     → Stands FS4 (record t { in0 = i; out0 = o }) (record s { side = r; next_address = None }) (record m { side = side })
 turned t s m i o r side st may ip op pair toggle first packet not_loaded none came =
     let c : Calls m.side = calls m.side may in
@@ -55,8 +56,7 @@ turned t s m i o r side st may ip op pair toggle first packet not_loaded none ca
         packet = packet;
         alone = ap (λ x. waits && x) not_loaded ∙ and_false waits;
       };
-      rx = record { lie = st.rx.lie ∙ ap (λ es. record { left = []; entries = es ++ setups_entries m.unserved; depth = rx_depth FS4 }) (c.came ∙ sym came); counts = st.rx.counts; few = st.rx.few; are = st.rx.are };
-      pipes = st.pipes;
+      rx = record { arrivals = st.rx.arrivals; lie = st.rx.lie; its = st.rx.its ∙ ap (λ xs. xs ++ setups_arrivals m.unserved) (c.came ∙ sym came); all = st.rx.all; counts = st.rx.counts; few = st.rx.few; are = st.rx.are };
       rest = st.rest;
       core = record { awake = st.core.awake; reset = st.core.reset; address = st.core.address; landed = st.core.landed; asleep = st.core.asleep; next = tt };
     }
@@ -152,7 +152,6 @@ start_for j p packet last f may hears is =
           (record { kept = c.in_kept; stall = c.in_stall; enabled = c.in_enabled; ready = never _ refl; holds = c.holds; size = never _ refl })
           (record { kept = c.out_kept; stall = c.out_stall; enabled = c.out_enabled; naks = never _ refl; toggle = λ h. c.out_toggle ∙ st.outs.toggle h; lies = λ h. c.out_nak ∙ st.outs.lies h })
           wait_wait c.in_toggle (ap (λ x. x || false) (sym f.heard ∙ hears)) is refl refl refl);
-      pipes = f.pipes;
       heard = f.heard;
       next_address = refl;
       reset = f.reset;
@@ -193,7 +192,6 @@ arm_for j p f may hears =
           (record { kept = c.in_kept; stall = c.in_stall; enabled = c.in_enabled; ready = never _ refl; holds = c.holds; size = never _ refl })
           (arm_out t s p.bus new.out0 o st may a c.out_toggle)
           armed_armed c.in_toggle (ap (λ x. x || false) (sym f.heard ∙ hears)) no_packet refl refl refl);
-      pipes = f.pipes;
       heard = f.heard;
       next_address = refl;
       reset = f.reset;
@@ -214,8 +212,7 @@ stall_for j p f may =
       stands = turned t s p.bus new.in0 new.out0 ready.Stall Stall st may
           (record { kept = refl; stall = refl; enabled = stays _ ∙ st.ins.enabled ∙ c.loaded; ready = never _ refl; holds = st.ins.holds ∙ ap tx_holding c.bytes; size = never _ refl })
           (record { kept = refl; stall = refl; enabled = stays _ ∙ st.outs.enabled ∙ c.armed; naks = never _ refl; toggle = st.outs.toggle; lies = λ h. nak_stays _ _ ∙ st.outs.lies h })
-          stall_stall refl (or_true _) no_packet refl refl refl;
-      pipes = f.pipes;
+          stall_stall refl (or_right _ true refl) no_packet refl refl refl;
       heard = f.heard;
       next_address = refl;
       reset = f.reset;
@@ -235,11 +232,9 @@ address_for j p n f h =
         pair = st.pair;
         side = st.side;
         rx = st.rx;
-        pipes = st.pipes;
         rest = st.rest;
         core = record { awake = st.core.awake; reset = st.core.reset; address = st.core.address; landed = st.core.landed; asleep = st.core.asleep; next = h };
       };
-      pipes = f.pipes;
       heard = f.heard;
       next_address = refl;
       reset = f.reset;

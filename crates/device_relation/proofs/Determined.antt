@@ -4,14 +4,14 @@ use Rattle.device_machine.specs.declared.control.Side.{Side}
 use Rattle.device_machine.specs.declared.control.Side.TheVariants.{Off, Wait}
 use Rattle.device_machine.specs.Bus.{Bus}
 use Rattle.dwc2_regs.specs.declared.access.TheConstants.{FS4}
-use Rattle.dwc2_fifo.specs.Rx.{Rx}
 use Rattle.dwc2_fifo.specs.Tx.{Tx}
 use Rattle.device_table.specs.State.{Table}
 use Rattle.device_relation.specs.declared.software.Ready.{Ready}
 use Rattle.device_relation.specs.declared.software.Ready.TheVariants as ready
+use Rattle.device_arrivals.specs.Arrivals.{setups_in}
 use Rattle.device_relation.specs.Software.{Software}
 use Rattle.device_relation.specs.Relation.{abstract, Stands, Pair, off_off, wait_wait, loaded_loaded, loaded_sent, last_last, last_armed, armed_armed, last_came, armed_came}
-use Rattle.device_relation.specs.Relation.{stall_stall, loaded_off, last_off, armed_off, stall_off, side_of, side_ready, side_with, packet_in, setups_in, packet_of, packets_of}
+use Rattle.device_relation.specs.Relation.{stall_stall, loaded_off, last_off, armed_off, stall_off, side_of, side_ready, side_with, packet_in, packet_of, packets_of}
 use Rattle.device_relation.specs.Relation.{loaded_bytes, is_loaded, is_armed, is_stalled, some_lie, is_taken, is_seen, toggle_of, loaded_if, last_if, armed_if, stalled_if}
 use Rattle.device_relation.proofs.Entries.{came_of, setups_in-is, packet_in-is}
 
@@ -59,7 +59,7 @@ side_at t ready.Stall = refl
 
 side_is : (t : Table) (s : Software) (m : Bus) → Stands FS4 t s m → side_of t s ≡ m.side
 side_is t s m st =
-    let front : packet_in t.rx.entries ≡ came_of m.side = ap (λ (rx : Rx). packet_in rx.entries) st.rx.lie ∙ packet_in-is m.side m.unserved st.side.packet in
+    let front : packet_in t.rx.entries ≡ came_of m.side = packet_in-is t.rx t.core.unserved m.side m.unserved st.rx in
     let holds : packet_of t.in0.fifo.packets ≡ loaded_bytes m.side = ap (λ (tx : Tx). packet_of tx.packets) st.ins.holds ∙ packet_of-packets_of (loaded_bytes m.side) in
     sym (side_at t s.side)
     ∙ ap (λ x. side_with x (ready_by s.side t.in0.xfrc t.in0.control.enabled t.out0.control.enabled t.in0.control.stall (packet_of t.in0.fifo.packets))) front
@@ -81,7 +81,7 @@ bus_eq x y a b c e f g h =
 
 pub determined : (t : Table) (s : Software) (m : Bus) → Stands FS4 t s m → abstract (record { table = t; software = s }) ≡ m
 determined t s m st =
-    let setups : setups_in t.rx.entries ≡ m.unserved = ap (λ (rx : Rx). setups_in rx.entries) st.rx.lie ∙ setups_in-is m.side m.unserved st.side.packet st.rx.are in
+    let setups : setups_in t.rx.entries ≡ m.unserved = setups_in-is t.rx t.core.unserved m.side m.unserved st.rx in
     let side = side_is t s m st in
     bus_eq (abstract (record { table = t; software = s })) m (sym st.core.awake) (sym st.core.reset) (sym st.core.address) setups side
     (ap (λ us. is_taken (some_lie us) s.heard (side_of t s)) setups ∙ ap (λ x. is_taken (some_lie m.unserved) s.heard x) side ∙ sym st.side.taken_is)

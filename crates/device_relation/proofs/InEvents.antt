@@ -1,34 +1,33 @@
 -- A token for the device on the bus.
 use Rattle.std.proofs.Common.{◌≡◌, ℕ, suc, ◌-◌, ◌≤◌, List, [], ◌∷◌, ◌++◌, length, Bool, true, false, Option, Some, None, refl, ap, sym, ◌∙◌, arith, subst}
 use Rattle.std.specs.Prelude.{◌||◌, ◌&&◌, not, ◌==◌, if◌then◌else◌, IsTrue}
+use Rattle.std.proofs.lemmas.Bool.{or_right}
 use Rattle.usb_packet.specs.declared.bus.Toggle.{Toggle}
 use Rattle.usb_packet.specs.declared.bus.Toggle.TheVariants.{D0, D1}
 use Rattle.usb_packet.specs.declared.bus.BusAnswer.TheVariants as answers
 use Rattle.usb_packet.specs.declared.bus.BusEvent.TheVariants as event
+use Rattle.usb_packet.specs.Toggles.{flipped}
 use Rattle.device_machine.specs.declared.control.Stage.TheVariants.{Sent}
 use Rattle.device_machine.specs.declared.control.Side.{Side}
 use Rattle.device_machine.specs.declared.control.Side.TheVariants.{Off, Wait, Loaded, Last, Armed, Stall, Finished}
 use Rattle.device_machine.specs.Bus as bus
-use Rattle.usb_descriptor.specs.Set.{is_core}
-use Rattle.device_pipe.specs.InPipe as in_pipe
-use Rattle.device_machine.specs.Pipes.{Pipes, InSlot, in_slot, in_hears, in_slot_answer}
 use Rattle.device_machine.specs.Bus.{Bus}
+use Rattle.device_machine.specs.Pipes.{Pipes}
 use Rattle.dwc2_regs.specs.declared.access.TheConstants.{FS4}
 use Rattle.dwc2_fifo.specs.Tx.{Tx, first_with, without_first}
 use Rattle.device_table.specs.State.{Table, InEnd, rx_depth}
-use Rattle.device_table.specs.Words.{packet_count, transfer_size, flipped}
+use Rattle.device_table.specs.Words.{packet_count, transfer_size}
 use Rattle.device_table.specs.Write.{setup_lies}
 use Rattle.device_table.specs.Bus as table
 use Rattle.device_table.specs.Bus.{InOutcome, unheard_in, naks_in, stalls_in, sends, sends_of, packet_ready, in_outcome}
 use Rattle.device_relation.specs.declared.software.Ready.{Ready}
 use Rattle.device_relation.specs.declared.software.Heard.{Heard}
 use Rattle.device_relation.specs.Software.{Software}
-use Rattle.device_relation.specs.Relation.{Stands, InEndPart, in_kept, in_slot_of, abstract_pipes, Pair, off_off, wait_wait, loaded_loaded, loaded_sent, last_last, last_armed, armed_armed, last_came, armed_came}
+use Rattle.device_relation.specs.Relation.{Stands, Pair, off_off, wait_wait, loaded_loaded, loaded_sent, last_last, last_armed, armed_armed, last_came, armed_came}
 use Rattle.device_relation.specs.Relation.{stall_stall, loaded_off, last_off, armed_off, stall_off, IsPacket, bytes_of_side, loaded_bytes, is_loaded, is_armed, is_stalled, is_idle}
-use Rattle.device_relation.specs.Relation.{was_heard, is_seen, is_taken, toggle_of, some_lie, came_entries, setups_entries, tx_holding, one_packet, in_at, is_used}
-use Rattle.device_relation.proofs.Pipes.{in_slot_is}
+use Rattle.device_relation.specs.Relation.{was_heard, is_seen, is_taken, toggle_of, some_lie, came_arrivals, setups_arrivals, tx_holding, one_packet}
 use Rattle.device_relation.proofs.SetupEvents.{hears_is, never, no_packet, not_zero}
-use Rattle.device_relation.proofs.OutEvents.{setup_lies_is, not_not, or_true, and_false}
+use Rattle.device_relation.proofs.OutEvents.{setup_lies_is, not_not, and_false}
 
 -- the outcome, by what the parts fix
 abbrev outcome_by : (heard waits stall enabled nak : Bool) → Option (List ℕ) → InOutcome
@@ -100,7 +99,8 @@ outcome_is : (t : Table) (s : Software) (m : Bus) (addr : ℕ) → Stands FS4 t 
 outcome_is t s m addr st =
     let c = t.in0.control in
     let packet = packet_ready 0 t.in0 in
-    ap (λ x. outcome_by (x && true) (setup_lies t) c.stall c.enabled c.nak packet) (hears_is t s m addr st.core) ∙ ap (λ x. outcome_by x (setup_lies t) c.stall c.enabled c.nak packet) (two_tests (bus.hears m addr))
+    ap (λ x. outcome_by (x && true) (setup_lies t) c.stall c.enabled c.nak packet) (hears_is t s m addr st.core)
+    ∙ ap (λ x. outcome_by x (setup_lies t) c.stall c.enabled c.nak packet) (two_tests (bus.hears m addr))
     ∙ ap (λ x. outcome_by (bus.hears m addr) x c.stall c.enabled c.nak packet) (setup_lies_is t s m st)
     ∙ ap (λ x. outcome_by (bus.hears m addr) (some_lie m.unserved) x c.enabled c.nak packet) st.ins.stall
     ∙ ap (λ x. outcome_by (bus.hears m addr) (some_lie m.unserved) (is_stalled m.side) x c.nak packet) st.ins.enabled
@@ -110,12 +110,12 @@ outcome_is t s m addr st =
 -- its toggle
 
 loaded_seen : (waits : Bool) (heard : Heard) (side : Side) → (was_heard heard || is_idle side) ≡ true → IsTrue (is_loaded side) → is_seen waits heard ≡ true
-loaded_seen waits heard (Loaded p) e h = ap (λ x. waits || x) (or_nothing (was_heard heard) e) ∙ or_true waits
+loaded_seen waits heard (Loaded p) e h = ap (λ x. waits || x) (or_nothing (was_heard heard) e) ∙ or_right waits true refl
   where
     or_nothing : (b : Bool) → (b || false) ≡ true → b ≡ true
     or_nothing true e = refl
     or_nothing false e = e
-loaded_seen waits heard (Last p) e h = ap (λ x. waits || x) (or_nothing (was_heard heard) e) ∙ or_true waits
+loaded_seen waits heard (Last p) e h = ap (λ x. waits || x) (or_nothing (was_heard heard) e) ∙ or_right waits true refl
   where
     or_nothing : (b : Bool) → (b || false) ≡ true → b ≡ true
     or_nothing true e = refl
@@ -184,7 +184,7 @@ record Sends (side : Side) : Type 0 where
   armed : is_armed (sent_side side) ≡ is_armed side
   bytes : loaded_bytes (sent_side side) ≡ []
   none : bytes_of_side (sent_side side) ≡ []
-  came : came_entries (sent_side side) ≡ came_entries side
+  came : came_arrivals (sent_side side) ≡ came_arrivals side
   taken : (waits : Bool) (heard : Heard) → is_taken waits heard (sent_side side) ≡ is_taken waits heard side
   idle : is_idle (sent_side side) ≡ is_idle side
 
@@ -215,12 +215,12 @@ fifo_is end bytes h size holds =
     ∙ ap (λ tx. fifo_by (length bytes) 1 tx) holds
     ∙ acked_fifo bytes
 
-flipped_is : (toggle : Toggle) (seen : Bool) (its : Toggle) → seen ≡ true → its ≡ toggle → bus.flipped toggle ≡ toggle_of seen (flipped its)
+flipped_is : (toggle : Toggle) (seen : Bool) (its : Toggle) → seen ≡ true → its ≡ toggle → flipped toggle ≡ toggle_of seen (flipped its)
 flipped_is D0 seen its e k = rw (e, k) refl
 flipped_is D1 seen its e k = rw (e, k) refl
 
 pub sent_stands : (t : Table) (s : Software) (m : Bus) → Stands FS4 t s m → IsTrue (is_loaded m.side)
-    → Stands FS4 (table.after_in t 0 true (sends (loaded_bytes m.side))) s (record m { side = sent_side m.side; toggle = bus.flipped m.toggle })
+    → Stands FS4 (table.after_in t 0 true (sends (loaded_bytes m.side))) s (record m { side = sent_side m.side; toggle = flipped m.toggle })
 sent_stands t s m st h =
     let r : Sends m.side = sends_side m.side h in
     let p : IsPacket (loaded_bytes m.side) = loaded_packet m.side st.side.packet in
@@ -244,8 +244,7 @@ sent_stands t s m st h =
         packet = subst IsPacket (sym r.none) no_packet;
         alone = ap (λ x. some_lie m.unserved && x) r.loaded ∙ and_false _;
       };
-      rx = record { lie = st.rx.lie ∙ ap (λ es. record { left = []; entries = es ++ setups_entries m.unserved; depth = rx_depth FS4 }) (sym r.came); counts = st.rx.counts; few = st.rx.few; are = st.rx.are };
-      pipes = st.pipes;
+      rx = record { arrivals = st.rx.arrivals; lie = st.rx.lie; its = st.rx.its ∙ ap (λ xs. xs ++ setups_arrivals m.unserved) (sym r.came); all = st.rx.all; counts = st.rx.counts; few = st.rx.few; are = st.rx.are };
       rest = st.rest;
       core = record { awake = st.core.awake; reset = st.core.reset; address = st.core.address; landed = st.core.landed; asleep = st.core.asleep; next = st.core.next };
     }
@@ -258,10 +257,10 @@ after_by naks_in ok x m = m
 after_by stalls_in ok x m = m
 
 abbrev sent_bus : Bus → Bus
-sent_bus m = record m { side = sent_side m.side; toggle = bus.flipped m.toggle }
+sent_bus m = record m { side = sent_side m.side; toggle = flipped m.toggle }
 
 nexts_agree : (heard waits ok : Bool) (side : Side) (m : Bus)
-    → after_by (outcome_of heard waits side) ok (record m { side = sent_side side; toggle = bus.flipped m.toggle }) (record m { side = side })
+    → after_by (outcome_of heard waits side) ok (record m { side = sent_side side; toggle = flipped m.toggle }) (record m { side = side })
     ≡ (if heard && (ok && not waits) then bus.after_in (record m { side = side }) side else record m { side = side })
 unfolding after_by
 nexts_agree false waits ok side m = refl
@@ -308,78 +307,3 @@ in0_stands t s m addr ok st =
     ∙ ap (λ x. if bus.hears m addr && (ok && x) then bus.after_in m m.side else m) (serves_is m.unserved) in
     subst (λ x. Stands FS4 (table.after_bus t (event.In addr 0 ok)) s x) next
     (subst (λ x. Stands FS4 (table.after_in t 0 ok x) s (after_by o ok (sent_bus m) m)) (sym (outcome_is t s m addr st)) all)
-
--- A token on another endpoint.
-
-naks_or_unheard : Bool → InOutcome
-naks_or_unheard true = naks_in
-naks_or_unheard false = unheard_in
-
-pipe_naks : (h enabled nak : Bool) (packet : Option (List ℕ)) → (IsTrue h → nak ≡ true) → outcome_by h false false enabled nak packet ≡ naks_or_unheard h
-unfolding naks_or_unheard
-pipe_naks false enabled nak packet k = refl
-pipe_naks true false nak packet k = refl
-pipe_naks true true nak packet k = rw (k refl) refl
-
-second : (a b : Bool) → (a && b) ≡ true → b ≡ true
-second true b h = h
-second false b h = never false refl h
-
-pipe_in_is : (t : Table) (s : Software) (m : Bus) (addr n : ℕ) → Stands FS4 t s m → in_outcome t addr (suc n) ≡ naks_or_unheard (bus.hears m addr && in_hears (in_slot_of (in_kept s.ins n)))
-pipe_in_is t s m addr n st =
-    let p : InEndPart (in_at t.ins n) (in_kept s.ins n) = st.pipes.each_in n in
-    let end = in_at t.ins n in
-    let c = end.control in
-    let packet = packet_ready (suc n) end in
-    let heard : (table.hears t addr && is_used c) ≡ (bus.hears m addr && in_hears (in_slot_of (in_kept s.ins n))) =
-    ap (λ x. x && is_used c) (hears_is t s m addr st.core) ∙ ap (λ x. bus.hears m addr && x) p.hears in
-    ap (λ x. outcome_by (table.hears t addr && is_used c) false x c.enabled c.nak packet) p.stall
-    ∙ pipe_naks (table.hears t addr && is_used c) c.enabled c.nak packet (λ h. p.naks (second (table.hears t addr) (is_used c) h))
-    ∙ ap naks_or_unheard heard
-
-naks_answer : (toggle : Toggle) (h : Bool) → table.in_answer toggle (naks_or_unheard h) ≡ (if h then answers.Nak else answers.NoAnswer)
-unfolding naks_or_unheard
-naks_answer toggle true = refl
-naks_answer toggle false = refl
-
-naks_after : (t : Table) (x : ℕ) (ok h : Bool) → table.after_in t x ok (naks_or_unheard h) ≡ t
-unfolding naks_or_unheard
-naks_after t x true true = refl
-naks_after t x false true = refl
-naks_after t x true false = refl
-naks_after t x false false = refl
-
-stays : (h ok : Bool) (x m : Bus) → m ≡ (if h && (ok && false) then x else m)
-stays true true x m = refl
-stays true false x m = refl
-stays false ok x m = refl
-
-spread : (heard hears : Bool) → (if heard && hears then answers.Nak else answers.NoAnswer) ≡ (if heard then (if hears then answers.Nak else answers.NoAnswer) else answers.NoAnswer)
-spread true hears = refl
-spread false hears = refl
-
--- an endpoint of the core answers NAK
-core_naks : (slot : InSlot) → is_core slot.endpoint.owner ≡ true → (if in_hears slot then answers.Nak else answers.NoAnswer) ≡ in_slot_answer slot
-core_naks slot e = ap (λ x. if in_hears slot then (if x then answers.Nak else in_pipe.in_answer slot.pipe) else answers.NoAnswer) (sym e)
-
-pub pipe_in_answer : (t : Table) (s : Software) (m : Bus) (addr n : ℕ) (ok : Bool) → Stands FS4 t s m
-    → table.bus_answer t (event.In addr (suc n) ok) ≡ bus.bus_answer m (abstract_pipes (record { table = t; software = s })) (event.In addr (suc n) ok)
-pipe_in_answer t s m addr n ok st =
-    let slot = in_slot_of (in_kept s.ins n) in
-    let p = abstract_pipes (record { table = t; software = s }) in
-    ap (table.in_answer (in_at t.ins n).toggle) (pipe_in_is t s m addr n st) ∙ naks_answer _ _
-    ∙ spread (bus.hears m addr) (in_hears slot)
-    ∙ ap (λ x. if bus.hears m addr then x else answers.NoAnswer) (core_naks slot (st.pipes.each_in n).core)
-    ∙ ap (λ x. if bus.hears m addr then in_slot_answer x else answers.NoAnswer) (sym (in_slot_is (record { table = t; software = s }) n st.pipes.ins_count))
-    ∙ ap (λ x. if bus.hears m addr then (if x then bus.control_in_answer m else in_slot_answer (in_slot p (suc n))) else answers.NoAnswer) (sym (not_zero n))
-
-pub pipe_in_stands : (t : Table) (s : Software) (m : Bus) (addr n : ℕ) (ok : Bool) → Stands FS4 t s m
-    → Stands FS4 (table.after_bus t (event.In addr (suc n) ok)) s (bus.bus_after m (event.In addr (suc n) ok))
-pipe_in_stands t s m addr n ok st =
-    let same : t ≡ table.after_bus t (event.In addr (suc n) ok) =
-    sym (ap (table.after_in t (suc n) ok) (pipe_in_is t s m addr n st) ∙ naks_after t (suc n) ok _) in
-    let next : m ≡ bus.bus_after m (event.In addr (suc n) ok) =
-    stays (bus.hears m addr) ok (bus.after_in m m.side) m
-    ∙ ap (λ x. if bus.hears m addr && (ok && (x && bus.is_empty m.unserved)) then bus.after_in m m.side else m) (sym (not_zero n)) in
-    subst (λ x. Stands FS4 (table.after_bus t (event.In addr (suc n) ok)) s x) next
-    (subst (λ x. Stands FS4 x s m) same st)

@@ -1,13 +1,12 @@
 -- The packet that waits, loaded.
-use Rattle.std.proofs.Common.{◌≡◌, ℕ, ◌≤◌, List, [], ◌++◌, length, Bool, true, false, refl, ap, sym, ◌∙◌, arith, subst}
+use Rattle.std.proofs.Common.{◌≡◌, ℕ, ◌≤◌, List, [], ◌∷◌, ◌++◌, length, Bool, true, false, refl, ap, sym, ◌∙◌, arith, subst}
 use Rattle.std.specs.Prelude.{◌||◌, ◌&&◌, not, IsTrue}
 use Rattle.device_machine.specs.declared.control.Side.{Side}
 use Rattle.device_machine.specs.declared.control.Side.TheVariants.{Wait, Loaded, Last}
 use Rattle.device_machine.specs.Bus.{Bus, loaded}
 use Rattle.dwc2_regs.specs.declared.access.TheConstants.{FS4}
-use Rattle.dwc2_regs.specs.Register.{dieptsiz, diepctl, diepint}
+use Rattle.dwc2_regs.specs.Register.{dieptsiz, diepctl, diepint, fifo}
 use Rattle.dwc2_fifo.specs.Words.{words_of}
-use Rattle.dwc2_fifo.specs.Rx.{Rx}
 use Rattle.device_table.specs.State.{Table, OutEnd}
 use Rattle.device_table.specs.Words.{transfer_size}
 use Rattle.device_table.specs.Write.{after_write, setup_in, setup_lies}
@@ -17,12 +16,12 @@ use Rattle.device_relation.specs.declared.software.Heard.{Heard}
 use Rattle.device_relation.specs.declared.software.Heard.TheVariants as heard
 use Rattle.device_relation.specs.Software.{Software, Joint}
 use Rattle.device_relation.specs.Relation.{Stands, OutPart, Pair, off_off, wait_wait, loaded_loaded, loaded_sent, last_last, last_armed, armed_armed, last_came, armed_came}
-use Rattle.device_relation.specs.Relation.{stall_stall, loaded_off, last_off, armed_off, stall_off, IsPacket, was_packet, is_seen, is_taken, some_lie, setups_entries, tx_holding}
+use Rattle.device_relation.specs.Relation.{stall_stall, loaded_off, last_off, armed_off, stall_off, IsPacket, was_packet, is_seen, is_taken, some_lie, tx_holding}
 use Rattle.device_relation.specs.Relation.{one_packet}
 use Rattle.device_relation.specs.Port.{Port, StandsFor}
 use Rattle.device_relation.specs.Run.{snak_epena, cnak, xfrc, words_written, packet_loaded, out_armed, loaded_from, waiting_loaded}
 use Rattle.device_relation.proofs.SetupEvents.{never}
-use Rattle.device_relation.proofs.OutEvents.{and_false}
+use Rattle.device_relation.proofs.OutEvents.{and_false, setup_lies_is}
 use Rattle.device_relation.proofs.Taken.{snak_naks}
 use Rattle.device_relation.proofs.Words.{ready_at, packet_written}
 
@@ -64,8 +63,8 @@ no_more true = refl
 no_more false = refl
 
 -- no SETUP lies
-nothing_lies : (t : Table) → (us : List (List ℕ)) → us ≡ [] → t.rx ≡ record { left = []; entries = [] ++ setups_entries us; depth = 84 } → setup_in t.rx.entries ≡ false
-nothing_lies t us e h = ap (λ (rx : Rx). setup_in rx.entries) h ∙ ap (λ vs. setup_in (setups_entries vs)) e
+nothing_lies : (t : Table) (s : Software) (m : Bus) → Stands FS4 t s m → m.unserved ≡ [] → setup_in t.rx.entries ≡ false
+nothing_lies t s m st e = setup_lies_is t s m st ∙ ap some_lie e
 
 -- a packet that isn't the last
 
@@ -81,13 +80,12 @@ loads t s m packet last st none =
         enabled = epena_enables _;
         holds = refl;
         size = λ _. refl;
-        ready = λ _. cnak_ends _ _ _ (nothing_lies t m.unserved none st.rx.lie);
+        ready = λ _. cnak_ends _ _ _ (nothing_lies t s (record m { side = Wait packet last }) st none);
       };
       outs = record { kept = st.outs.kept; stall = st.outs.stall; enabled = st.outs.enabled; naks = never _ refl; toggle = st.outs.toggle; lies = st.outs.lies };
       pair = subst (λ x. Pair x ready.Loaded (Loaded packet)) (sym (no_more t.in0.xfrc)) loaded_loaded;
       side = record { taken_is = st.side.taken_is; toggle_is = st.side.toggle_is; first = st.side.first; packet = st.side.packet; alone = ap (λ us. some_lie us && true) none };
-      rx = record { lie = st.rx.lie; counts = st.rx.counts; few = st.rx.few; are = st.rx.are };
-      pipes = st.pipes;
+      rx = record { arrivals = st.rx.arrivals; lie = st.rx.lie; its = st.rx.its; all = st.rx.all; counts = st.rx.counts; few = st.rx.few; are = st.rx.are };
       rest = st.rest;
       core = record { awake = st.core.awake; reset = st.core.reset; address = st.core.address; landed = st.core.landed; asleep = st.core.asleep; next = st.core.next };
     })
@@ -144,8 +142,7 @@ arms_last t s m packet st x none new a = record {
   outs = out_part t s m t.out0 new (Loaded packet) packet a st.outs none st.side.taken_is;
   pair = subst (λ x. Pair x ready.Last (Last packet)) (sym x) last_last;
   side = record { taken_is = st.side.taken_is; toggle_is = st.side.toggle_is; first = st.side.first; packet = st.side.packet; alone = st.side.alone };
-  rx = record { lie = st.rx.lie; counts = st.rx.counts; few = st.rx.few; are = st.rx.are };
-  pipes = st.pipes;
+  rx = record { arrivals = st.rx.arrivals; lie = st.rx.lie; its = st.rx.its; all = st.rx.all; counts = st.rx.counts; few = st.rx.few; are = st.rx.are };
   rest = st.rest;
   core = record { awake = st.core.awake; reset = st.core.reset; address = st.core.address; landed = st.core.landed; asleep = st.core.asleep; next = st.core.next };
 }
@@ -157,7 +154,7 @@ loads_last t s m packet last st none =
     let l = packet_loaded t packet in
     let done : Stands FS4 l (record s { side = ready.Loaded }) (record m { side = Loaded packet }) = loads t s m packet last st none in
     let x : l.in0.xfrc ≡ false = ap (λ (y : Table). y.in0.xfrc) (sym (loaded_is t packet st.side.packet st.ins.holds)) ∙ no_more t.in0.xfrc in
-    let lies : setup_lies l ≡ false = nothing_lies l m.unserved none done.rx.lie in
+    let lies : setup_lies l ≡ false = nothing_lies l (record s { side = ready.Loaded }) (record m { side = Loaded packet }) done none in
     subst (λ y. Stands FS4 y (record s { side = ready.Last }) (record m { side = Last packet })) (sym (armed_out0 l s.heard))
     (arms_last l (record s { side = ready.Loaded }) m packet done x none (out_armed l s.heard).out0 (arms l s.heard false lies (λ h. never _ refl h)))
 
@@ -172,7 +169,6 @@ loads_for : (t : Table) (s : Software) (p : Port) {x : Bool} {r : Ready} {side :
 unfolding with_loaded
 loads_for t s p (wait_wait {packet = packet} {last = true}) f none = record {
   stands = loads_last t (record s { side = ready.Wait packet true }) p.bus packet true f.stands none;
-  pipes = f.pipes;
   heard = f.heard;
   next_address = f.next_address;
   reset = f.reset;
@@ -181,7 +177,6 @@ loads_for t s p (wait_wait {packet = packet} {last = true}) f none = record {
 }
 loads_for t s p (wait_wait {packet = packet} {last = false}) f none = record {
   stands = loads t (record s { side = ready.Wait packet false }) p.bus packet false f.stands none;
-  pipes = f.pipes;
   heard = f.heard;
   next_address = f.next_address;
   reset = f.reset;
@@ -205,3 +200,26 @@ loads_for t s p stall_off f none = f
 pub waiting_for : (j : Joint) (p : Port) → StandsFor FS4 j p → p.bus.unserved ≡ [] → StandsFor FS4 (waiting_loaded j) (record p { bus = record p.bus { side = loaded p.bus.side } })
 unfolding with_loaded
 waiting_for j p f none = loads_for j.table j.software p f.stands.pair f none
+
+-- Loading endpoint 0 leaves the other endpoints, and what lies in the receive FIFO.
+pub record SameRest (old new : Table) : Type 0 where
+  pub outs : new.outs ≡ old.outs
+  pub ins : new.ins ≡ old.ins
+  pub rx : new.rx ≡ old.rx
+
+words_same : (t : Table) (ws : List ℕ) → SameRest t (words_written t ws)
+words_same t [] = record { outs = refl; ins = refl; rx = refl }
+words_same t (w ∷ ws) =
+    let rest = words_same (after_write t (fifo 0) w) ws in
+    record { outs = rest.outs; ins = rest.ins; rx = rest.rx }
+
+pub loaded_same : (t : Table) (packet : List ℕ) → SameRest t (packet_loaded t packet)
+unfolding sized
+loaded_same t packet =
+    let rest = words_same (sized t packet) (words_of packet) in
+    record { outs = rest.outs; ins = rest.ins; rx = rest.rx }
+
+pub armed_same : (t : Table) (h : Heard) → SameRest t (out_armed t h)
+armed_same t heard.Packet = record { outs = refl; ins = refl; rx = refl }
+armed_same t heard.Nothing = record { outs = refl; ins = refl; rx = refl }
+armed_same t heard.Setup = record { outs = refl; ins = refl; rx = refl }

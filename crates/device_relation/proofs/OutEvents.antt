@@ -1,35 +1,38 @@
 -- A packet from the host on the bus.
 use Rattle.std.proofs.Common.{◌≡◌, ℕ, suc, ◌+◌, ◌≤◌, List, [], ◌∷◌, ◌++◌, length, Bool, true, false, refl, ap, sym, ◌∙◌, arith, subst}
 use Rattle.std.specs.Prelude.{◌||◌, ◌&&◌, not, ◌==◌, if◌then◌else◌, nat_le, IsTrue}
+use Rattle.std.proofs.lemmas.Bool.{or_right}
 use Rattle.std.proofs.lemmas.Bool.Decides.{nat_tests}
 use Rattle.usb_packet.specs.declared.bus.Toggle.{Toggle}
 use Rattle.usb_packet.specs.declared.bus.Toggle.TheVariants.{D0, D1}
 use Rattle.usb_packet.specs.declared.bus.BusAnswer.TheVariants as answers
 use Rattle.usb_packet.specs.declared.bus.BusEvent.TheVariants as event
+use Rattle.usb_packet.specs.Toggles.{same_toggle}
 use Rattle.device_machine.specs.declared.control.Stage.TheVariants.{Came}
 use Rattle.device_machine.specs.declared.control.Side.{Side}
 use Rattle.device_machine.specs.declared.control.Side.TheVariants.{Off, Wait, Loaded, Last, Armed, Stall, Finished}
 use Rattle.device_machine.specs.Bus as bus
-use Rattle.usb_descriptor.specs.Set.{is_core}
-use Rattle.device_pipe.specs.OutPipe as out_pipe
-use Rattle.device_machine.specs.Pipes.{Pipes, OutSlot, out_slot, out_hears, out_slot_answer}
 use Rattle.device_machine.specs.Bus.{Bus, takes}
+use Rattle.device_machine.specs.Pipes.{Pipes}
 use Rattle.dwc2_regs.specs.declared.access.TheConstants.{FS4}
 use Rattle.dwc2_fifo.specs.Words.{word_count}
 use Rattle.dwc2_fifo.specs.Rx.{Rx, room_of}
 use Rattle.dwc2_fifo.specs.Tx.{Tx, empty_of as tx_empty}
 use Rattle.device_table.specs.State.{Table, rx_depth}
-use Rattle.device_table.specs.Words.{same_toggle, packet_size}
+use Rattle.device_table.specs.Words.{packet_size}
 use Rattle.device_table.specs.Write.{setup_lies, setup_in}
 use Rattle.device_table.specs.Bus as table
 use Rattle.device_table.specs.Bus.{OutOutcome, unheard, naks, stalls, drops, lands, out_entries, is_repeated_of, has_room, hears_out, out_outcome}
+use Rattle.device_arrivals.specs.Arrivals.{Arrival, Packet, entries_of, arrivals_for, packets_for}
+use Rattle.device_arrivals.proofs.Behind.{entries_of-behind, arrivals_for-behind}
+use Rattle.device_arrivals.proofs.Counts.{has_room as room_for}
+use Rattle.device_arrivals.proofs.Few.{few_with_packet, packets_for-its}
 use Rattle.device_relation.specs.declared.software.Ready.{Ready}
 use Rattle.device_relation.specs.Software.{Software}
-use Rattle.device_relation.specs.Relation.{Stands, OutEndPart, out_kept, out_slot_of, abstract_pipes, Pair, off_off, wait_wait, loaded_loaded, loaded_sent, last_last, last_armed, armed_armed, last_came, armed_came}
+use Rattle.device_relation.specs.Relation.{Stands, Pair, off_off, wait_wait, loaded_loaded, loaded_sent, last_last, last_armed, armed_armed, last_came, armed_came}
 use Rattle.device_relation.specs.Relation.{stall_stall, loaded_off, last_off, armed_off, stall_off, IsPacket, is_armed, is_stalled, is_idle, was_heard, was_packet, some_lie}
-use Rattle.device_relation.specs.Relation.{came_entries, setups_entries, landed_of, out_at, is_used}
+use Rattle.device_relation.specs.Relation.{came_arrivals, setups_arrivals, landed_of}
 use Rattle.device_relation.proofs.Entries.{setup_in-is}
-use Rattle.device_relation.proofs.Pipes.{out_slot_is}
 use Rattle.device_relation.proofs.SetupEvents.{hears_is, never, not_zero}
 
 -- the outcome, by what the parts fix
@@ -157,7 +160,7 @@ nexts_agree true false false (Last p) D1 x m = refl
 record Free (side : Side) : Type 0 where
   stall : is_stalled side ≡ false
   idle : is_idle side ≡ false
-  came : came_entries side ≡ []
+  came : came_arrivals side ≡ []
 
 armed_side : (side : Side) → IsTrue (is_armed side) → Free side
 armed_side Armed h = record { stall = refl; idle = refl; came = refl }
@@ -188,44 +191,42 @@ pub none_lie : (us : List (List ℕ)) → some_lie us ≡ false → us ≡ []
 none_lie [] e = refl
 none_lie (u ∷ us) e = never true e refl
 
-pub or_true : (b : Bool) → (b || true) ≡ true
-or_true true = refl
-or_true false = refl
-
 pub and_false : (b : Bool) → (b && false) ≡ false
 and_false true = refl
 and_false false = refl
 
-land_entries : (side : Side) (us : List (List ℕ)) (bytes : List ℕ) → came_entries side ≡ [] → us ≡ []
-    → (came_entries side ++ setups_entries us) ++ out_entries 0 D1 bytes ≡ out_entries 0 D1 bytes ++ setups_entries us
-land_entries side us bytes e k =
-    ap (λ es. (es ++ setups_entries us) ++ out_entries 0 D1 bytes) e
-    ∙ ap (λ vs. setups_entries vs ++ out_entries 0 D1 bytes) k
-    ∙ ap (λ vs. out_entries 0 D1 bytes ++ setups_entries vs) (sym k)
+nothing_its : (side : Side) (us : List (List ℕ)) → came_arrivals side ≡ [] → us ≡ [] → came_arrivals side ++ setups_arrivals us ≡ []
+nothing_its side us e k = ap (λ xs. xs ++ setups_arrivals us) e ∙ ap setups_arrivals k
+
+pub no_packets : (arrivals : List Arrival) → arrivals_for 0 arrivals ≡ [] → packets_for 0 arrivals ≡ []
+no_packets arrivals e = packets_for-its 0 arrivals ∙ ap (packets_for 0) e
 
 pub land_stands : (t : Table) (s : Software) (m : Bus) (bytes : List ℕ) → Stands FS4 t s m → IsPacket bytes
     → m.awake ≡ true → some_lie m.unserved ≡ false → IsTrue (is_armed m.side)
     → Stands FS4 (table.after_landing t 0 D1 bytes) s (record m { side = Finished (Came bytes); taken = true })
 land_stands t s m bytes st h awake lie ar =
     let r : Free m.side = armed_side m.side ar in
+    let none : came_arrivals m.side ++ setups_arrivals m.unserved ≡ [] = nothing_its m.side m.unserved r.came (none_lie m.unserved lie) in
     record {
       ins = record { kept = st.ins.kept; stall = st.ins.stall ∙ r.stall; enabled = refl; ready = never _ refl; holds = ap (λ (tx : Tx). tx_empty tx.depth) st.ins.holds; size = never _ refl };
       outs = record { kept = st.outs.kept; stall = st.outs.stall ∙ r.stall; enabled = refl; naks = never _ refl; toggle = never _ (and_false _); lies = λ _. refl };
       pair = pair_lands bytes st.pair ar;
       side = record {
-        taken_is = sym (ap (λ w. not w && (was_packet s.heard || true)) lie ∙ or_true (was_packet s.heard));
+        taken_is = sym (ap (λ w. not w && (was_packet s.heard || true)) lie ∙ or_right (was_packet s.heard) true refl);
         toggle_is = st.side.toggle_is;
         first = ap (λ i. was_heard s.heard || i) (sym r.idle) ∙ st.side.first;
         packet = h;
         alone = and_false _;
       };
       rx = record {
-        lie = ap (λ (rx : Rx). record rx { entries = rx.entries ++ out_entries 0 D1 bytes }) st.rx.lie ∙ ap (λ es. record { left = []; entries = es; depth = rx_depth FS4 }) (land_entries m.side m.unserved bytes r.came (none_lie m.unserved lie));
+        arrivals = st.rx.arrivals ++ Packet 0 D1 bytes ∷ [];
+        lie = ap (λ (rx : Rx). record rx { entries = rx.entries ++ out_entries 0 D1 bytes }) st.rx.lie ∙ ap (λ es. record { left = []; entries = es; depth = rx_depth FS4 }) (entries_of-behind st.rx.arrivals (Packet 0 D1 bytes));
+        its = arrivals_for-behind 0 st.rx.arrivals (Packet 0 D1 bytes) ∙ ap (λ xs. xs ++ Packet 0 D1 bytes ∷ []) (st.rx.its ∙ none) ∙ ap (λ vs. Packet 0 D1 bytes ∷ setups_arrivals vs) (sym (none_lie m.unserved lie));
+        all = few_with_packet FS4.out_eps st.rx.arrivals 0 D1 bytes st.rx.all (omega arith, h.fits, h.below) (no_packets st.rx.arrivals (st.rx.its ∙ none));
         counts = st.rx.counts;
         few = st.rx.few;
         are = st.rx.are;
       };
-      pipes = st.pipes;
       rest = st.rest;
       core = record { awake = st.core.awake; reset = st.core.reset; address = st.core.address; landed = sym (ap (λ a. landed_of a true) awake); asleep = st.core.asleep; next = st.core.next };
     }
@@ -236,10 +237,10 @@ pub not_not : (b : Bool) → not (not b) ≡ b
 not_not true = refl
 not_not false = refl
 
-three_tests : (awake a ok : Bool) → ((awake && a) && ok) ≡ (awake && (a && ok))
-three_tests false a ok = refl
-three_tests true false ok = refl
-three_tests true true ok = refl
+two_tests : (awake a ok : Bool) → ((awake && a) && ok) ≡ (awake && (a && ok))
+two_tests false a ok = refl
+two_tests true false ok = refl
+two_tests true true ok = refl
 
 all_tests : (awake a ok fits : Bool) → fits ≡ true → ((awake && a) && ok && true && fits) ≡ (awake && (a && ok))
 all_tests false a ok fits h = refl
@@ -250,8 +251,8 @@ all_tests true true true fits h = h
 small : (n : ℕ) → n ≤ 64 → nat_le n 64 ≡ true
 small n h = grind (arith, nat_tests)
 
-roomy : (n : ℕ) → n ≤ 64 → nat_le (2 + word_count n) 84 ≡ true
-roomy n h = grind (arith, nat_tests)
+roomy : (n k : ℕ) → n ≤ k → nat_le n k ≡ true
+roomy n k h = grind (arith, nat_tests)
 
 heard_is : (t : Table) (s : Software) (m : Bus) (addr : ℕ) (bytes : List ℕ) (ok : Bool) → Stands FS4 t s m → IsPacket bytes
     → hears_out t addr 0 bytes ok ≡ (m.awake && ((addr == m.address) && ok))
@@ -264,10 +265,10 @@ heard_is t s m addr bytes ok st h =
 has_room_is : (t : Table) (s : Software) (m : Bus) (bytes : List ℕ) → Stands FS4 t s m → IsPacket bytes → some_lie m.unserved ≡ false → IsTrue (is_armed m.side)
     → has_room t bytes ≡ true
 has_room_is t s m bytes st h lie ar =
-    let e : came_entries m.side ++ setups_entries m.unserved ≡ [] =
-    ap (λ es. es ++ setups_entries m.unserved) (armed_side m.side ar).came ∙ ap setups_entries (none_lie m.unserved lie) in
-    ap (λ (rx : Rx). nat_le (2 + word_count (length bytes)) (room_of rx)) (st.rx.lie ∙ ap (λ es. record { left = []; entries = es; depth = rx_depth FS4 }) e)
-    ∙ roomy (length bytes) h.fits
+    let none = st.rx.its ∙ nothing_its m.side m.unserved (armed_side m.side ar).came (none_lie m.unserved lie) in
+    ap (λ (rx : Rx). nat_le (2 + word_count (length bytes)) (room_of rx)) st.rx.lie
+    ∙ roomy (2 + word_count (length bytes)) (room_of (record { left = []; entries = entries_of st.rx.arrivals; depth = rx_depth FS4 }))
+    ((room_for FS4 (record t { rx = record { left = []; entries = []; depth = rx_depth FS4 } }) st.rx.arrivals refl st.rx.all).packet 0 (length bytes) (omega arith) (no_packets st.rx.arrivals none) h.fits)
 
 or_false : (b i : Bool) → i ≡ false → (b || i) ≡ true → IsTrue b
 or_false true i e h = refl
@@ -277,7 +278,7 @@ seen_now : (waits heard taken : Bool) → waits ≡ false → taken ≡ false �
 seen_now waits heard taken e k h = rw (e, k, h) refl
 
 pub setup_lies_is : (t : Table) (s : Software) (m : Bus) → Stands FS4 t s m → setup_lies t ≡ some_lie m.unserved
-setup_lies_is t s m st = ap (λ (rx : Rx). setup_in rx.entries) st.rx.lie ∙ setup_in-is m.side m.unserved st.side.packet
+setup_lies_is t s m st = setup_in-is t.rx t.core.unserved m.side m.unserved st.rx
 
 outcome_is : (t : Table) (s : Software) (m : Bus) (addr : ℕ) (toggle : Toggle) (bytes : List ℕ) (ok : Bool) → Stands FS4 t s m → IsPacket bytes
     → out_outcome t addr 0 toggle bytes ok ≡ outcome_of (m.awake && ((addr == m.address) && ok)) (some_lie m.unserved) (is_stalled m.side) m.taken (is_armed m.side) toggle
@@ -311,7 +312,7 @@ pub out0_answer : (t : Table) (s : Software) (m : Bus) (p : Pipes) (addr : ℕ) 
 out0_answer t s m p addr toggle bytes ok st h =
     ap table.out_answer (outcome_is t s m addr toggle bytes ok st h)
     ∙ answers_agree (m.awake && ((addr == m.address) && ok)) (some_lie m.unserved) m.taken m.side toggle
-    ∙ ap (λ x. if x then (if not (some_lie m.unserved) then bus.out_answer m.side m.taken toggle else answers.Nak) else answers.NoAnswer) (sym (three_tests m.awake (addr == m.address) ok))
+    ∙ ap (λ x. if x then (if not (some_lie m.unserved) then bus.out_answer m.side m.taken toggle else answers.Nak) else answers.NoAnswer) (sym (two_tests m.awake (addr == m.address) ok))
     ∙ ap (λ x. if bus.hears_packet m addr ok then (if x then bus.out_answer m.side m.taken toggle else answers.Nak) else answers.NoAnswer) (sym (serves_is m.unserved))
 
 out0_next : (m : Bus) (addr : ℕ) (toggle : Toggle) (bytes : List ℕ) (ok : Bool)
@@ -320,7 +321,7 @@ out0_next : (m : Bus) (addr : ℕ) (toggle : Toggle) (bytes : List ℕ) (ok : Bo
 out0_next m addr toggle bytes ok =
     let after = bus.after_out m toggle bytes in
     nexts_agree (m.awake && ((addr == m.address) && ok)) (some_lie m.unserved) m.taken m.side toggle (record m { side = Finished (Came bytes); taken = true }) m
-    ∙ ap (λ x. if x && not (some_lie m.unserved) then after else m) (sym (three_tests m.awake (addr == m.address) ok))
+    ∙ ap (λ x. if x && not (some_lie m.unserved) then after else m) (sym (two_tests m.awake (addr == m.address) ok))
     ∙ ap (λ x. if bus.hears_packet m addr ok && x then after else m) (sym (serves_is m.unserved))
 
 pub out0_stands : (t : Table) (s : Software) (m : Bus) (addr : ℕ) (toggle : Toggle) (bytes : List ℕ) (ok : Bool) → Stands FS4 t s m → IsPacket bytes
@@ -334,85 +335,3 @@ out0_stands t s m addr toggle bytes ok st h =
     (λ hears lie none ar is. subst (λ x. Stands FS4 (table.after_landing t 0 x bytes) s X) (sym is) (land_stands t s m bytes st h (both_true m.awake _ hears) lie ar)) in
     subst (λ x. Stands FS4 (table.after_out t 0 toggle bytes (out_outcome t addr 0 toggle bytes ok)) s x) (out0_next m addr toggle bytes ok)
     (subst (λ o. Stands FS4 (table.after_out t 0 toggle bytes o) s (after_by (outcome_of heard (some_lie m.unserved) (is_stalled m.side) m.taken (is_armed m.side) toggle) X m)) (sym (outcome_is t s m addr toggle bytes ok st h)) all)
-
--- A packet on another endpoint.
-
-naks_or_unheard : Bool → OutOutcome
-naks_or_unheard true = naks
-naks_or_unheard false = unheard
-
-pipe_naks : (h enabled nak same room : Bool) → (IsTrue h → nak ≡ true) → outcome_by h false false false enabled nak same room ≡ naks_or_unheard h
-unfolding naks_or_unheard
-pipe_naks false enabled nak same room k = refl
-pipe_naks true false nak same room k = refl
-pipe_naks true true nak same room k = rw (k refl) refl
-
-four : (h ok used fits takes : Bool) → (used && fits) ≡ takes → (h && ok && used && fits) ≡ ((h && ok) && takes)
-four false ok used fits takes e = refl
-four true false used fits takes e = refl
-four true true used fits takes e = e
-
-pipe_out_is : (t : Table) (s : Software) (m : Bus) (addr n : ℕ) (toggle : Toggle) (bytes : List ℕ) (ok : Bool) → Stands FS4 t s m
-    → out_outcome t addr (suc n) toggle bytes ok ≡ naks_or_unheard (bus.hears_packet m addr ok && out_hears (out_slot_of (out_kept s.outs n)) (length bytes))
-pipe_out_is t s m addr n toggle bytes ok st =
-    let p : OutEndPart (suc n) (out_at t.outs n) (out_kept s.outs n) = st.pipes.each_out n in
-    let end = out_at t.outs n in
-    let c = end.control in
-    let fits = nat_le (length bytes) (packet_size (suc n) c) in
-    let same = same_toggle end.toggle toggle in
-    let room = has_room t bytes in
-    let heard : hears_out t addr (suc n) bytes ok ≡ (bus.hears_packet m addr ok && out_hears (out_slot_of (out_kept s.outs n)) (length bytes)) =
-    ap (λ x. x && ok && is_used c && fits) (hears_is t s m addr st.core) ∙ four (bus.hears m addr) ok (is_used c) fits _ (p.hears (length bytes)) in
-    ap (λ x. outcome_by (hears_out t addr (suc n) bytes ok) false x false c.enabled c.nak same room) p.stall
-    ∙ pipe_naks (hears_out t addr (suc n) bytes ok) c.enabled c.nak same room (λ h. p.naks (used_of (table.hears t addr) ok (is_used c) fits h))
-    ∙ ap naks_or_unheard heard
-  where
-    used_of : (a b c d : Bool) → (a && b && c && d) ≡ true → c ≡ true
-    used_of true true true d h = refl
-    used_of true true false d h = h
-    used_of true false c d h = never false refl h
-    used_of false b c d h = never false refl h
-
-naks_answer : (h : Bool) → table.out_answer (naks_or_unheard h) ≡ (if h then answers.Nak else answers.NoAnswer)
-unfolding naks_or_unheard
-naks_answer true = refl
-naks_answer false = refl
-
-naks_after : (t : Table) (x : ℕ) (toggle : Toggle) (bytes : List ℕ) (h : Bool) → table.after_out t x toggle bytes (naks_or_unheard h) ≡ t
-unfolding naks_or_unheard
-naks_after t x toggle bytes true = refl
-naks_after t x toggle bytes false = refl
-
-stays : (h : Bool) (x m : Bus) → m ≡ (if h && false then x else m)
-stays true x m = refl
-stays false x m = refl
-
-spread : (heard hears : Bool) → (if heard && hears then answers.Nak else answers.NoAnswer) ≡ (if heard then (if hears then answers.Nak else answers.NoAnswer) else answers.NoAnswer)
-spread true hears = refl
-spread false hears = refl
-
--- an endpoint of the core answers NAK
-core_naks : (slot : OutSlot) (bytes : ℕ) → is_core slot.endpoint.owner ≡ true → (if out_hears slot bytes then answers.Nak else answers.NoAnswer) ≡ out_slot_answer slot bytes
-core_naks slot bytes e = ap (λ x. if out_hears slot bytes then (if x then answers.Nak else out_pipe.out_answer slot.pipe) else answers.NoAnswer) (sym e)
-
-pub pipe_out_answer : (t : Table) (s : Software) (m : Bus) (addr n : ℕ) (toggle : Toggle) (bytes : List ℕ) (ok : Bool) → Stands FS4 t s m
-    → table.bus_answer t (event.Out addr (suc n) toggle bytes ok) ≡ bus.bus_answer m (abstract_pipes (record { table = t; software = s })) (event.Out addr (suc n) toggle bytes ok)
-pipe_out_answer t s m addr n toggle bytes ok st =
-    let slot = out_slot_of (out_kept s.outs n) in
-    let p = abstract_pipes (record { table = t; software = s }) in
-    ap table.out_answer (pipe_out_is t s m addr n toggle bytes ok st) ∙ naks_answer _
-    ∙ spread (bus.hears_packet m addr ok) (out_hears slot (length bytes))
-    ∙ ap (λ x. if bus.hears_packet m addr ok then x else answers.NoAnswer) (core_naks slot (length bytes) (st.pipes.each_out n).core)
-    ∙ ap (λ x. if bus.hears_packet m addr ok then out_slot_answer x (length bytes) else answers.NoAnswer) (sym (out_slot_is (record { table = t; software = s }) n st.pipes.outs_count))
-    ∙ ap (λ x. if bus.hears_packet m addr ok then (if x then bus.control_out_answer m toggle else out_slot_answer (out_slot p (suc n)) (length bytes)) else answers.NoAnswer) (sym (not_zero n))
-
-pub pipe_out_stands : (t : Table) (s : Software) (m : Bus) (addr n : ℕ) (toggle : Toggle) (bytes : List ℕ) (ok : Bool) → Stands FS4 t s m
-    → Stands FS4 (table.after_bus t (event.Out addr (suc n) toggle bytes ok)) s (bus.bus_after m (event.Out addr (suc n) toggle bytes ok))
-pipe_out_stands t s m addr n toggle bytes ok st =
-    let same : t ≡ table.after_bus t (event.Out addr (suc n) toggle bytes ok) =
-    sym (ap (table.after_out t (suc n) toggle bytes) (pipe_out_is t s m addr n toggle bytes ok st) ∙ naks_after t (suc n) toggle bytes _) in
-    let next : m ≡ bus.bus_after m (event.Out addr (suc n) toggle bytes ok) =
-    stays (bus.hears_packet m addr ok) (bus.after_out m toggle bytes) m
-    ∙ ap (λ x. if bus.hears_packet m addr ok && (x && bus.is_empty m.unserved) then bus.after_out m toggle bytes else m) (sym (not_zero n)) in
-    subst (λ x. Stands FS4 (table.after_bus t (event.Out addr (suc n) toggle bytes ok)) s x) next
-    (subst (λ x. Stands FS4 x s m) same st)

@@ -1,43 +1,96 @@
 -- A handler run that finds no reset.
-use Rattle.std.proofs.Common.{◌≡◌, ℕ, zero, suc, ◌*◌, ◌≤◌, List, [], ◌∷◌, ◌++◌, length, Bool, true, false, Option, Some, None, refl, ap, sym, ◌∙◌, arith, subst}
-use Rattle.std.specs.Prelude.{if◌then◌else◌}
+use Rattle.std.proofs.Common.{◌≡◌, ℕ, zero, suc, ◌+◌, ◌<◌, ◌≤◌, length-set, List, [], ◌∷◌, ◌++◌, length, Bool, true, false, Option, Some, None, refl, ap, sym, ◌∙◌, arith, subst, All}
+use Rattle.std.specs.Prelude.{◌==◌, if◌then◌else◌, slice_set}
+use Rattle.std.proofs.lemmas.Bool.Decides.{nat_tests}
+use Rattle.std.proofs.lemmas.List.Elements.{All-head, All-tail}
+use Rattle.usb_packet.specs.declared.bus.Toggle.{Toggle}
+use Rattle.device_machine.specs.declared.control.Stage.{Stage}
 use Rattle.device_machine.specs.declared.control.Stage.TheVariants.{Sent, Came}
 use Rattle.device_machine.specs.declared.control.Side.{Side}
 use Rattle.device_machine.specs.declared.control.Side.TheVariants.{Off, Wait, Loaded, Last, Armed, Stall, Finished}
-use Rattle.device_machine.specs.Bus.{Bus, last_of, finished_stage}
+use Rattle.device_machine.specs.Bus.{Bus, last_of, finished_stage, loaded}
+use Rattle.device_machine.specs.Pipes.{Pipes, out_slot, with_out_slot, out_slot_after_irq}
 use Rattle.dwc2_regs.specs.declared.access.TheConstants.{FS4}
 use Rattle.dwc2_fifo.specs.Rx.{Rx, Entry}
-use Rattle.device_table.specs.State.{Table, rx_depth}
+use Rattle.device_table.specs.State.{Table, rx_depth, out_end}
+use Rattle.device_arrivals.specs.Arrivals.{Arrival, Request, Packet, entries_of, arrivals_for, landed_on, requested_by, packets_at, AreFew, IsArrival}
+use Rattle.device_arrivals.proofs.Few.{few_behind}
+use Rattle.device_rings.specs.Rings.{Rings}
+use Rattle.endpoint_relation.specs.OutLaws.{OutMoveKeeps}
+use Rattle.endpoint_relation.specs.OutSteps.{moved}
+use Rattle.endpoint_relation.specs.InLaws.{InServes}
 use Rattle.device_relation.specs.declared.software.Ready.{Ready}
 use Rattle.device_relation.specs.declared.software.Ready.TheVariants as ready
-use Rattle.device_relation.specs.Software.{Software, Joint}
-use Rattle.device_relation.specs.Relation.{Stands, Pair, off_off, wait_wait, loaded_loaded, last_last, last_armed, armed_armed, last_came, armed_came, stall_stall, loaded_off}
-use Rattle.device_relation.specs.Relation.{last_off, armed_off, stall_off, came_entries, setups_entries, was_heard, IsAddress}
-use Rattle.device_machine.specs.Pipes.{pipes_after_irq}
-use Rattle.device_relation.proofs.Pipes.{irq_idle}
-use Rattle.device_relation.specs.Port.{with_pipes_served, Port, StandsFor, with_request, with_stage, with_address, with_stages}
-use Rattle.device_relation.specs.Run.{entries_taken, waiting_loaded, rest_served, sent_served, sent_noted, last_served, served_by, cleared_ack}
+use Rattle.device_relation.specs.Software.{Software, Joint, out_kept, with_out_kept}
+use Rattle.device_relation.specs.Relation.{Stands, FifoPart, IsPacket, Pair, off_off, wait_wait, loaded_loaded, last_last, last_armed, armed_armed, last_came, armed_came, stall_stall, loaded_off}
+use Rattle.device_relation.specs.Relation.{last_off, armed_off, stall_off, came_arrivals, setups_arrivals, was_heard, IsAddress}
+use Rattle.device_relation.specs.PipeRelation.{PipesStand}
+use Rattle.device_relation.specs.Port.{Port, StandsFor, with_request, with_stage, with_address, with_stages}
+use Rattle.device_relation.specs.Run.{Whole, with_joint, arrivals_taken, waiting_loaded, loaded_from, packet_loaded, out_armed, rest_served, in_pipes_served, sent_served, last_served, served_by, address_served, sent_noted, last_acknowledged, cleared_ack}
 use Rattle.device_relation.proofs.SetupEvents.{never}
 use Rattle.device_relation.proofs.Stages.{finished_is, acknowledged_is, sent_for, address_for, last_for}
-use Rattle.device_relation.proofs.Pops.{rx_as, none_taken, setup_popped, came_popped, setup_table, setup_software, came_table, came_software}
+use Rattle.device_relation.proofs.Front.{SetupFront, setup_front, PacketFront, packet_front, other_front}
+use Rattle.device_relation.proofs.Pops.{rx_as, whole, none_taken, setup_popped, came_popped, pipe_popped, ended, taken_ring, setup_table, setup_software, came_table, came_software}
 use Rattle.device_relation.proofs.Taken.{came_off, setup_off, or_nothing}
-use Rattle.device_relation.proofs.Loads.{waiting_for}
+use Rattle.device_relation.proofs.Pipes.{SamePipes, same_pipes}
+use Rattle.device_relation.proofs.Takes.{pipe_moves, lies_are}
+use Rattle.device_arrivals.proofs.Counts.{is_counted}
+use Rattle.device_relation.proofs.Entries.{requests_are}
+use Rattle.device_relation.proofs.InPipes.{Both, ins_worked, all_served}
+use Rattle.device_relation.proofs.Loads.{waiting_for, SameRest, loaded_same, armed_same}
 
--- the receive FIFO, where the entries are these
-lies_as : (t : Table) (s : Software) (m : Bus) (entries : List Entry) → Stands FS4 t s m → came_entries m.side ++ setups_entries m.unserved ≡ entries → t ≡ rx_as t [] entries
-lies_as t s m entries st e = ap (λ (rx : Rx). record t { rx = rx }) (st.rx.lie ∙ ap (λ es. record { left = []; entries = es; depth = rx_depth FS4 }) e)
+-- What each arrival makes of endpoint 0, and of the pipes.
 
--- SETUPs
-
-setup_port : Port → List ℕ → List (List ℕ) → Port
+unfoldable pub setup_port : Port → List ℕ → List (List ℕ) → Port
 setup_port p bytes us = record p { bus = record p.bus { unserved = us; side = Off }; heard = true; next_address = None; request = Some bytes }
 
-setup_for : (j : Joint) (p : Port) (bytes : List ℕ) (us : List (List ℕ)) → StandsFor FS4 j (record p { bus = record p.bus { unserved = bytes ∷ us } })
-    → StandsFor FS4 (record { table = setup_table (rx_as j.table [] (setups_entries us)); software = setup_software j.software bytes }) (setup_port p bytes us)
+unfoldable pub less_one : List (List ℕ) → List (List ℕ)
+less_one [] = []
+less_one (u ∷ us) = us
+
+abbrev pub zero_step : Port → Arrival → Port
+zero_step p (Request bytes) = setup_port p bytes (less_one p.bus.unserved)
+zero_step p (Packet zero toggle bytes) = with_stage p (Came bytes)
+zero_step p (Packet (suc m) toggle bytes) = p
+
+unfoldable pub zero_worked : Port → List Arrival → Port
+zero_worked p [] = p
+zero_worked p (arrival ∷ arrivals) = zero_worked (zero_step p arrival) arrivals
+
+abbrev pub pipe_worked : Pipes → ℕ → Pipes
+pipe_worked q n = with_out_slot q n (out_slot_after_irq (out_slot q n))
+
+abbrev pub pipe_step : Pipes → Arrival → Pipes
+pipe_step q (Request bytes) = q
+pipe_step q (Packet zero toggle bytes) = q
+pipe_step q (Packet (suc m) toggle bytes) = pipe_worked q (suc m)
+
+unfoldable pub pipes_worked : Pipes → List Arrival → Pipes
+pipes_worked q [] = q
+pipes_worked q (arrival ∷ arrivals) = pipes_worked (pipe_step q arrival) arrivals
+
+-- all is taken
+pub record Taken (w : Whole) (p : Port) (q : Pipes) : Type 0 where
+  pub zero : StandsFor FS4 w.joint p
+  pub nothing : zero.stands.rx.arrivals ≡ []
+  pub pipes : PipesStand FS4 w.joint.table w.joint.software w.rings q
+
+-- with what lies there
+pub record Holds (j : Joint) (r : Rings) (p : Port) (q : Pipes) (arrivals : List Arrival) : Type 0 where
+  pub zero : StandsFor FS4 j p
+  pub are : zero.stands.rx.arrivals ≡ arrivals
+  pub pipes : PipesStand FS4 j.table j.software r q
+
+pub lies_as : (j : Joint) (r : Rings) (p : Port) (q : Pipes) (arrivals : List Arrival) → Holds j r p q arrivals → j.table ≡ rx_as j.table [] (entries_of arrivals)
+lies_as j r p q arrivals h =
+    ap (λ (rx : Rx). record j.table { rx = rx }) (h.zero.stands.rx.lie ∙ ap (λ xs. record { left = []; entries = entries_of xs; depth = rx_depth FS4 }) h.are)
+
+setup_for : (j : Joint) (p : Port) (bytes : List ℕ) (us : List (List ℕ)) (arrivals : List Arrival) → StandsFor FS4 j p → p.bus.unserved ≡ bytes ∷ us
+    → arrivals_for 0 arrivals ≡ setups_arrivals us → AreFew FS4.out_eps arrivals
+    → StandsFor FS4 (record { table = setup_table (rx_as j.table [] (entries_of arrivals)); software = setup_software j.software bytes }) (setup_port p bytes us)
 unfolding setup_port
-setup_for j p bytes us f = record {
-  stands = setup_off j.table j.software p.bus bytes us f.stands;
-  pipes = f.pipes;
+setup_for j p bytes us arrivals f e its all = record {
+  stands = setup_off j.table j.software p.bus bytes us arrivals (subst (λ xs. Stands FS4 j.table j.software (record p.bus { unserved = xs })) e f.stands) its all;
   heard = refl;
   next_address = refl;
   reset = f.reset;
@@ -45,201 +98,223 @@ setup_for j p bytes us f = record {
   request = refl;
 }
 
-final : List ℕ → List (List ℕ) → List ℕ
-final b [] = b
-final b (u ∷ us) = final u us
+came_for : (j : Joint) (p : Port) (bytes : List ℕ) (arrivals : List Arrival) → StandsFor FS4 j p → p.bus.side ≡ Finished (Came bytes)
+    → arrivals_for 0 arrivals ≡ setups_arrivals p.bus.unserved → AreFew FS4.out_eps arrivals
+    → StandsFor FS4 (record { table = came_table (rx_as j.table [] (entries_of arrivals)); software = came_software j.software bytes }) (with_stage p (Came bytes))
+came_for j p bytes arrivals f e its all =
+    let st : Stands FS4 j.table j.software (record p.bus { side = Finished (Came bytes) }) = subst (λ x. Stands FS4 j.table j.software (record p.bus { side = x })) e f.stands in
+    record {
+      stands = came_off j.table j.software p.bus bytes arrivals st its all;
+      heard = f.heard ∙ or_nothing (was_heard j.software.heard) st.side.first;
+      next_address = f.next_address;
+      reset = f.reset;
+      finished = refl;
+      request = f.request;
+    }
 
-last_is : (b : List ℕ) (us : List (List ℕ)) → last_of (b ∷ us) ≡ Some (final b us)
-unfolding final
-last_is b [] = refl
-last_is b (u ∷ us) = last_is u us
+same_at : (t t' : Table) (left : List ℕ) (a : Arrival) (arrivals : List Arrival) → All (IsArrival FS4.out_eps) (a ∷ arrivals) → ((n : ℕ) → landed_on (suc n) (a ∷ arrivals) ≡ landed_on (suc n) arrivals)
+    → (n : ℕ) → packets_at (suc n) (rx_as t' left (entries_of arrivals)).rx.entries ≡ packets_at (suc n) (rx_as t left (entries_of (a ∷ arrivals))).rx.entries
+same_at t t' left a arrivals all e n =
+    lies_are t' left arrivals (suc n) (All-tail (IsArrival FS4.out_eps) a arrivals all) ∙ sym (e n) ∙ sym (lies_are t left (a ∷ arrivals) (suc n) all)
 
-no_fuel : {A : Type 0} (n : ℕ) → 2 * suc n ≤ 1 → A
-no_fuel n h = absurd (none n h)
+not_zero_number : (n : ℕ) → (suc n == 0) ≡ false
+not_zero_number n = grind (arith, nat_tests)
+
+-- the law of one OUT endpoint's packets
+abbrev pub Law : Type 0
+Law = OutMoveKeeps
+
+suc_few : (n k : ℕ) → suc n ≤ suc k → n ≤ k
+suc_few n k h = omega (arith, h)
+
+no_room : {A : Type 0} (n : ℕ) → suc n ≤ 0 → A
+no_room n h = absurd (none n h)
   where
-    none : (n : ℕ) → 2 * suc n ≤ 1 → ⊥
-    none n h = omega arith
+    none : (n : ℕ) → suc n ≤ 0 → ⊥
+    none n h = omega (arith, h)
 
-less_fuel : (k n : ℕ) → 2 * suc n ≤ suc (suc k) → 2 * n ≤ k
-less_fuel k n h = omega arith
+ends_before : (k : ℕ) (j : Joint) (r : Rings) (p : Port) (q : Pipes) → Holds j r p q [] → Taken (arrivals_taken k (record { joint = j; rings = r })) p q
+ends_before k j r p q h =
+    let lies : j.table ≡ rx_as j.table [] [] = lies_as j r p q [] h in
+    let same : arrivals_taken k (record { joint = j; rings = r }) ≡ record { joint = j; rings = r } =
+    ap (λ t. arrivals_taken k (whole t j.software r)) lies ∙ none_taken k j.table j.software r ∙ ap (λ t. whole t j.software r) (sym lies) in
+    subst (λ w. Taken w p q) (sym same) (record { zero = h.zero; nothing = h.are; pipes = h.pipes })
 
-one_fuel : (k n : ℕ) → k ≤ 1 → 2 * suc n ≤ k → 2 * suc n ≤ 1
-one_fuel k n h l = omega arith
+below_sixteen : (m : ℕ) → suc m ≤ 3 → suc m < 16
+below_sixteen m h = omega (arith, h)
 
--- the last of them is noted, and where there is none the packet that waits is loaded
-requests_for : (us : List (List ℕ)) (k : ℕ) (j : Joint) (p : Port) → 2 * length us ≤ k → came_entries p.bus.side ≡ [] → StandsFor FS4 j (record p { bus = record p.bus { unserved = us } })
-    → StandsFor FS4 (waiting_loaded (entries_taken k j)) (with_request (record p { bus = record p.bus { unserved = us } }) (last_of us))
-unfolding setup_port
-requests_for [] k j p fuel none f =
-    let lies : j.table ≡ rx_as j.table [] [] = lies_as j.table j.software (record p.bus { unserved = [] }) [] f.stands (ap (λ es. es ++ setups_entries []) none) in
-    let same : entries_taken k j ≡ j =
-    ap (λ t. entries_taken k (record { table = t; software = j.software })) lies ∙ none_taken k j.table j.software ∙ ap (λ t. record { table = t; software = j.software }) (sym lies) in
-    subst (λ x. StandsFor FS4 (waiting_loaded x) (with_request (record p { bus = record p.bus { unserved = [] } }) None)) (sym same) (waiting_for j (record p { bus = record p.bus { unserved = [] } }) f refl)
-requests_for (b ∷ us) zero j p fuel none f = no_fuel (length us) (one_fuel zero (length us) (omega arith) fuel)
-requests_for (b ∷ us) (suc zero) j p fuel none f = no_fuel (length us) (one_fuel 1 (length us) (omega arith) fuel)
-requests_for (b ∷ us) (suc (suc k)) j p fuel none f =
-    let lies : j.table ≡ rx_as j.table [] (setups_entries (b ∷ us)) =
-    lies_as j.table j.software (record p.bus { unserved = b ∷ us }) (setups_entries (b ∷ us)) f.stands (ap (λ es. es ++ setups_entries (b ∷ us)) none) in
-    let j1 : Joint = record { table = setup_table (rx_as j.table [] (setups_entries us)); software = setup_software j.software b } in
-    let step : entries_taken (suc (suc k)) j ≡ entries_taken k j1 =
-    ap (λ t. entries_taken (suc (suc k)) (record { table = t; software = j.software })) lies ∙ setup_popped k j.table j.software b (setups_entries us) f.stands.rx.are.0 in
-    let p1 : Port = setup_port p b us in
-    let rest = requests_for us k j1 p1 (less_fuel k (length us) fuel) refl (setup_for j p b us f) in
-    subst (λ x. StandsFor FS4 (waiting_loaded x) (with_request (record p { bus = record p.bus { unserved = b ∷ us } }) (last_of (b ∷ us)))) (sym step)
-    (subst (λ q. StandsFor FS4 (waiting_loaded (entries_taken k j1)) q) (again us) rest)
-  where
-    again : (us : List (List ℕ)) → with_request (setup_port p b us) (last_of us) ≡ with_request (record p { bus = record p.bus { unserved = b ∷ us } }) (last_of (b ∷ us))
-    again [] = refl
-    again (u ∷ us) =
-        ap (with_request (setup_port p b (u ∷ us))) (last_is u us) ∙ ap (with_request (record p { bus = record p.bus { unserved = b ∷ u ∷ us } })) (sym (last_is u us))
+within_three : (m : ℕ) → suc m ≤ 3 → m < 3
+within_three m h = omega (arith, h)
 
-six : (n : ℕ) → n ≤ 3 → 2 * n ≤ 6
-six n h = omega arith
+-- a packet of another endpoint leaves endpoint 0
+other_zero : (j : Joint) (p : Port) (m : ℕ) (toggle : Toggle) (bytes : List ℕ) (arrivals : List Arrival) (f : StandsFor FS4 j p) → f.stands.rx.arrivals ≡ Packet (suc m) toggle bytes ∷ arrivals → AreFew FS4.out_eps arrivals
+    → StandsFor FS4 (record { table = ended j.table (suc m) arrivals; software = with_out_kept j.software (suc m) (moved (out_kept j.software (suc m))) }) p
+other_zero j p m toggle bytes arrivals f are all =
+    let st = f.stands in
+    record {
+      stands = record {
+        ins = st.ins;
+        outs = st.outs;
+        pair = st.pair;
+        side = st.side;
+        rx = record {
+          arrivals = arrivals;
+          lie = refl;
+          its = sym (other_front m toggle bytes arrivals) ∙ ap (arrivals_for 0) (sym are) ∙ st.rx.its;
+          all = all;
+          counts = st.rx.counts;
+          few = st.rx.few;
+          are = st.rx.are;
+        };
+        rest = record {
+          masks = st.rest.masks;
+          hosts = st.rest.hosts;
+          in_ends = st.rest.in_ends;
+          out_ends = length-set (slice_set j.table.outs m (record (out_end j.table (suc m)) { xfrc = true })) m _ ∙ length-set j.table.outs m _ ∙ st.rest.out_ends;
+        };
+        core = record { awake = st.core.awake; reset = st.core.reset; address = st.core.address; landed = st.core.landed; asleep = st.core.asleep; next = st.core.next };
+      };
+      heard = f.heard;
+      next_address = f.next_address;
+      reset = f.reset;
+      finished = f.finished;
+      request = f.request;
+    }
 
-eight : (n : ℕ) → n ≤ 3 → 2 * n ≤ 8
-eight n h = omega arith
+-- the pipes, where endpoint 0's own is taken
+pipes_stay : (t t' : Table) (s s' : Software) (r : Rings) (q : Pipes) (a : Arrival) (arrivals : List Arrival) → All (IsArrival FS4.out_eps) (a ∷ arrivals)
+    → ((n : ℕ) → landed_on (suc n) (a ∷ arrivals) ≡ landed_on (suc n) arrivals) → t ≡ rx_as t [] (entries_of (a ∷ arrivals)) → PipesStand FS4 t s r q
+    → t'.outs ≡ t.outs → t'.ins ≡ t.ins → s'.outs ≡ s.outs → s'.ins ≡ s.ins → t'.rx.entries ≡ entries_of arrivals → PipesStand FS4 t' s' r q
+pipes_stay t t' s s' r q a arrivals all e lies ps o i ko ki lie =
+    same_pipes (rx_as t [] (entries_of (a ∷ arrivals))) t' s s' r q
+    (record {
+      outs = o;
+      ins = i;
+      out_kepts = ko;
+      in_kepts = ki;
+      lie = λ n. ap (packets_at (suc n)) lie ∙ same_at t t [] a arrivals all e n;
+    }) (subst (λ x. PipesStand FS4 x s r q) lies ps)
 
--- a packet in front of them
+-- the one in front is taken
+pub record Next (j : Joint) (r : Rings) (p : Port) (q : Pipes) (a : Arrival) (arrivals : List Arrival) : Type 0 where
+  pub after : Whole
+  pub step : (k : ℕ) → arrivals_taken (suc k) (record { joint = j; rings = r }) ≡ arrivals_taken k after
+  pub holds : Holds after.joint after.rings (zero_step p a) (pipe_step q a) arrivals
+  pub count : length after.joint.table.outs ≡ 3
 
-came_for : (j : Joint) (p : Port) (bytes : List ℕ) → StandsFor FS4 j (record p { bus = record p.bus { side = Finished (Came bytes) } })
-    → StandsFor FS4 (record { table = came_table (rx_as j.table [] (setups_entries p.bus.unserved)); software = came_software j.software bytes }) (with_stage p (Came bytes))
-came_for j p bytes f = record {
-  stands = came_off j.table j.software p.bus bytes f.stands;
-  pipes = f.pipes;
-  heard = f.heard ∙ or_nothing (was_heard j.software.heard) f.stands.side.first;
-  next_address = f.next_address;
-  reset = f.reset;
-  finished = refl;
-  request = f.request;
-}
+pub next_for : Law → (a : Arrival) (arrivals : List Arrival) (j : Joint) (r : Rings) (p : Port) (q : Pipes) → length j.table.outs ≡ 3 → Holds j r p q (a ∷ arrivals) → Next j r p q a arrivals
+unfolding setup_port less_one setup_for came_for other_zero setup_off came_off
+next_for law (Request bytes) arrivals j r p q count h =
+    let f = h.zero in
+    let st = f.stands in
+    let all : AreFew FS4.out_eps (Request bytes ∷ arrivals) = subst (λ xs. AreFew FS4.out_eps xs) h.are st.rx.all in
+    let rest = few_behind FS4.out_eps (Request bytes) arrivals all in
+    let is = All-head (IsArrival FS4.out_eps) (Request bytes) arrivals all.all in
+    let lies = lies_as j r p q (Request bytes ∷ arrivals) h in
+    let front : SetupFront bytes (arrivals_for 0 arrivals) p.bus.side p.bus.unserved = setup_front bytes (arrivals_for 0 arrivals) p.bus.side p.bus.unserved (ap (arrivals_for 0) (sym h.are) ∙ st.rx.its) in
+    let us = less_one p.bus.unserved in
+    let same : us ≡ front.setups = ap less_one front.are in
+    let j1 : Joint = record { table = setup_table (rx_as j.table [] (entries_of arrivals)); software = setup_software j.software bytes } in
+    let f1 : StandsFor FS4 j1 (setup_port p bytes us) = setup_for j p bytes us arrivals f (front.are ∙ ap (λ (xs : List (List ℕ)). bytes ∷ xs) (sym same)) (front.its ∙ ap setups_arrivals (sym same)) rest in
+    record {
+      after = record { joint = j1; rings = r };
+      step = λ k. ap (λ t. arrivals_taken (suc k) (whole t j.software r)) lies ∙ setup_popped k j.table j.software r bytes (entries_of arrivals) (record { eight = is.0; below = is.1 });
+      holds = record { zero = f1; are = refl; pipes = pipes_stay j.table j1.table j.software j1.software r q (Request bytes) arrivals all.all (λ n. refl) lies h.pipes refl refl refl refl refl };
+      count = count;
+    }
+next_for law (Packet zero toggle bytes) arrivals j r p q count h =
+    let f = h.zero in
+    let st = f.stands in
+    let a = Packet 0 toggle bytes in
+    let all : AreFew FS4.out_eps (a ∷ arrivals) = subst (λ xs. AreFew FS4.out_eps xs) h.are st.rx.all in
+    let rest = few_behind FS4.out_eps a arrivals all in
+    let is = All-head (IsArrival FS4.out_eps) a arrivals all.all in
+    let lies = lies_as j r p q (a ∷ arrivals) h in
+    let front : PacketFront toggle bytes (arrivals_for 0 arrivals) p.bus.side p.bus.unserved = packet_front toggle bytes (arrivals_for 0 arrivals) p.bus.side p.bus.unserved (ap (arrivals_for 0) (sym h.are) ∙ st.rx.its) in
+    let j1 : Joint = record { table = came_table (rx_as j.table [] (entries_of arrivals)); software = came_software j.software bytes } in
+    record {
+      after = record { joint = j1; rings = r };
+      step = λ k. ap (λ t. arrivals_taken (suc k) (whole t j.software r)) lies ∙ came_popped k j.table j.software r toggle bytes arrivals (record { fits = is.1; below = is.2 });
+      holds = record {
+        zero = came_for j p bytes arrivals f front.side_is front.its rest;
+        are = refl;
+        pipes = pipes_stay j.table j1.table j.software j1.software r q a arrivals all.all (λ n. ap (λ b. if b then record { toggle = toggle; bytes = bytes } ∷ landed_on (suc n) arrivals else landed_on (suc n) arrivals) (not_zero_number n)) lies h.pipes refl refl refl refl refl;
+      };
+      count = count;
+    }
+next_for law (Packet (suc m) toggle bytes) arrivals j r p q count h =
+    let a = Packet (suc m) toggle bytes in
+    let all : AreFew FS4.out_eps (a ∷ arrivals) = subst (λ xs. AreFew FS4.out_eps xs) h.are h.zero.stands.rx.all in
+    let is = All-head (IsArrival FS4.out_eps) a arrivals all.all in
+    let lies = lies_as j r p q (a ∷ arrivals) h in
+    let kept = out_kept j.software (suc m) in
+    let j1 : Joint = record { table = ended j.table (suc m) arrivals; software = with_out_kept j.software (suc m) (moved kept) } in
+    record {
+      after = record { joint = j1; rings = taken_ring kept.over r (suc m) bytes };
+      step = λ k. ap (λ t. arrivals_taken (suc k) (whole t j.software r)) lies ∙ pipe_popped k j.table j.software r m toggle bytes arrivals (below_sixteen m is.0) (record { fits = is.1; below = is.2 }) kept.over refl;
+      holds = record {
+        zero = other_zero j p m toggle bytes arrivals h.zero h.are (few_behind FS4.out_eps a arrivals all);
+        are = refl;
+        pipes = pipe_moves law j.table j.software r q m toggle bytes arrivals (within_three m is.0) count all.all (subst (λ x. PipesStand FS4 x j.software r q) lies h.pipes);
+      };
+      count = length-set (slice_set j.table.outs m (record (out_end j.table (suc m)) { xfrc = true })) m _ ∙ length-set j.table.outs m _ ∙ count;
+    }
 
--- all that isn't a packet that was acknowledged
+taken_for : Law → (arrivals : List Arrival) (k : ℕ) (j : Joint) (r : Rings) (p : Port) (q : Pipes) → length arrivals ≤ k → length j.table.outs ≡ 3 → Holds j r p q arrivals
+    → Taken (arrivals_taken k (record { joint = j; rings = r })) (zero_worked p arrivals) (pipes_worked q arrivals)
+unfolding zero_worked pipes_worked
+taken_for law [] k j r p q fuel count h = ends_before k j r p q h
+taken_for law (a ∷ arrivals) zero j r p q fuel count h = no_room (length arrivals) fuel
+taken_for law (a ∷ arrivals) (suc k) j r p q fuel count h =
+    let n = next_for law a arrivals j r p q count h in
+    subst (λ w. Taken w (zero_worked (zero_step p a) arrivals) (pipes_worked (pipe_step q a) arrivals)) (sym (n.step k))
+    (taken_for law arrivals k n.after.joint n.after.rings (zero_step p a) (pipe_step q a) (suc_few (length arrivals) k fuel) n.count n.holds)
 
-is_sent : Side → Bool
-is_sent (Finished Sent) = true
-is_sent (Finished (Came bytes)) = false
-is_sent Off = false
-is_sent (Wait p l) = false
-is_sent (Loaded p) = false
-is_sent (Last p) = false
-is_sent Armed = false
-is_sent Stall = false
+-- What a run that finds no reset, no new address and no packet acknowledged leaves: what lies there is worked, the packet that
+-- waits is loaded, and the IN endpoints are served.
 
--- the pipes follow, and as they are at rest, nothing moves
-piped : (j : Joint) (p : Port) → StandsFor FS4 j p → StandsFor FS4 j (with_pipes_served p)
-piped j p f = record {
-  stands = f.stands;
-  pipes = ap pipes_after_irq f.pipes ∙ irq_idle j;
-  heard = f.heard;
-  next_address = f.next_address;
-  reset = f.reset;
-  finished = f.finished;
-  request = f.request;
-}
+abbrev pub run_port : Port → List Arrival → Port
+run_port p arrivals = record (zero_worked p arrivals) { bus = record (zero_worked p arrivals).bus { side = loaded (zero_worked p arrivals).bus.side } }
 
-plain_for : (j : Joint) (p : Port) → came_entries p.bus.side ≡ [] → StandsFor FS4 j p → StandsFor FS4 (rest_served j) (with_pipes_served (with_request p (last_of p.bus.unserved)))
-plain_for j p none f =
-    piped (rest_served j) (with_request p (last_of p.bus.unserved)) (requests_for p.bus.unserved 8 j p (eight (length p.bus.unserved) f.stands.rx.few) none f)
+nothing_unserved : (j : Joint) (p : Port) (f : StandsFor FS4 j p) → f.stands.rx.arrivals ≡ [] → p.bus.unserved ≡ []
+nothing_unserved j p f e = sym (requests_are j.table.rx j.table.core.unserved p.bus.side p.bus.unserved f.stands.rx) ∙ ap requested_by e
 
-rest_for : (side : Side) (j : Joint) (p : Port) → is_sent side ≡ false → StandsFor FS4 j (record p { bus = record p.bus { side = side } })
-    → StandsFor FS4 (rest_served j) (with_stages (record p { bus = record p.bus { side = side } }) (finished_stage side))
-unfolding is_sent
-rest_for (Finished Sent) j p e f = never true e refl
-rest_for (Finished (Came bytes)) j p e f =
-    let us = p.bus.unserved in
-    let lies : j.table ≡ rx_as j.table [] (came_entries (Finished (Came bytes)) ++ setups_entries us) =
-    lies_as j.table j.software (record p.bus { side = Finished (Came bytes) }) (came_entries (Finished (Came bytes)) ++ setups_entries us) f.stands refl in
-    let j1 : Joint = record { table = came_table (rx_as j.table [] (setups_entries us)); software = came_software j.software bytes } in
-    let step : entries_taken 8 j ≡ entries_taken 6 j1 =
-    ap (λ t. entries_taken 8 (record { table = t; software = j.software })) lies ∙ came_popped 6 j.table j.software bytes (setups_entries us) f.stands.side.packet in
-    subst (λ x. StandsFor FS4 (waiting_loaded x) (with_stages (record p { bus = record p.bus { side = Finished (Came bytes) } }) (Some (Came bytes)))) (sym step)
-    (piped (waiting_loaded (entries_taken 6 j1)) (with_request (with_stage p (Came bytes)) (last_of us)) (requests_for us 6 j1 (with_stage p (Came bytes)) (six (length us) f.stands.rx.few) refl (came_for j p bytes f)))
-rest_for Off j p e f = plain_for j (record p { bus = record p.bus { side = Off } }) refl f
-rest_for (Wait q l) j p e f = plain_for j (record p { bus = record p.bus { side = Wait q l } }) refl f
-rest_for (Loaded q) j p e f = plain_for j (record p { bus = record p.bus { side = Loaded q } }) refl f
-rest_for (Last q) j p e f = plain_for j (record p { bus = record p.bus { side = Last q } }) refl f
-rest_for Armed j p e f = plain_for j (record p { bus = record p.bus { side = Armed } }) refl f
-rest_for Stall j p e f = plain_for j (record p { bus = record p.bus { side = Stall } }) refl f
+pub record Laws : Type 0 where
+  pub outs : OutMoveKeeps
+  pub ins : InServes
 
-others_for : (j : Joint) (p : Port) → is_sent p.bus.side ≡ false → StandsFor FS4 j p → StandsFor FS4 (rest_served j) (with_stages p (finished_stage p.bus.side))
-others_for j p e f = rest_for p.bus.side j p e f
+-- the pipes of the two directions
+unfoldable pub all_worked : Pipes → List Arrival → Pipes
+all_worked q arrivals = ins_worked 3 1 (pipes_worked q arrivals)
 
--- none was acknowledged
-not_sent : {r : Ready} {side : Side} → Pair false r side → is_sent side ≡ false
-unfolding is_sent
-not_sent off_off = refl
-not_sent wait_wait = refl
-not_sent loaded_loaded = refl
-not_sent last_last = refl
-not_sent armed_armed = refl
-not_sent last_came = refl
-not_sent armed_came = refl
-not_sent stall_stall = refl
-not_sent loaded_off = refl
-not_sent last_off = refl
-not_sent armed_off = refl
-not_sent stall_off = refl
+from_same : (t t' : Table) (s s' : Software) (r : Rings) (q : Pipes) → SameRest t t' → s'.outs ≡ s.outs → s'.ins ≡ s.ins → PipesStand FS4 t s r q → PipesStand FS4 t' s' r q
+from_same t t' s s' r q h o i ps =
+    same_pipes t t' s s' r q (record { outs = h.outs; ins = h.ins; out_kepts = o; in_kepts = i; lie = λ n. ap (λ (rx : Rx). packets_at (suc n) rx.entries) h.rx }) ps
 
-last_not_sent : {x : Bool} {side : Side} → Pair x ready.Last side → is_sent side ≡ false
-unfolding is_sent
-last_not_sent last_last = refl
-last_not_sent last_armed = refl
-last_not_sent last_came = refl
-last_not_sent last_off = refl
+loaded_by : (t : Table) (s : Software) (r : Rings) (q : Pipes) (side : Ready) → PipesStand FS4 t s r q
+    → PipesStand FS4 (loaded_from (record { table = t; software = s }) side).table (loaded_from (record { table = t; software = s }) side).software r q
+loaded_by t s r q ready.Off ps = ps
+loaded_by t s r q ready.Loaded ps = ps
+loaded_by t s r q ready.Last ps = ps
+loaded_by t s r q ready.Armed ps = ps
+loaded_by t s r q ready.Stall ps = ps
+loaded_by t s r q (ready.Wait packet true) ps =
+    from_same (packet_loaded t packet) (out_armed (packet_loaded t packet) s.heard) s (record s { side = ready.Last }) r q (armed_same (packet_loaded t packet) s.heard) refl refl
+    (from_same t (packet_loaded t packet) s s r q (loaded_same t packet) refl refl ps)
+loaded_by t s r q (ready.Wait packet false) ps = from_same t (packet_loaded t packet) s (record s { side = ready.Loaded }) r q (loaded_same t packet) refl refl ps
 
-off_not_sent : {x : Bool} {side : Side} → Pair x ready.Off side → is_sent side ≡ false
-unfolding is_sent
-off_not_sent off_off = refl
-
-wait_not_sent : {x : Bool} {side : Side} {q : List ℕ} {l : Bool} → Pair x (ready.Wait q l) side → is_sent side ≡ false
-unfolding is_sent
-wait_not_sent wait_wait = refl
-
-armed_not_sent : {x : Bool} {side : Side} → Pair x ready.Armed side → is_sent side ≡ false
-unfolding is_sent
-armed_not_sent armed_armed = refl
-armed_not_sent armed_came = refl
-armed_not_sent armed_off = refl
-
-stall_not_sent : {x : Bool} {side : Side} → Pair x ready.Stall side → is_sent side ≡ false
-unfolding is_sent
-stall_not_sent stall_stall = refl
-stall_not_sent stall_off = refl
-
--- a packet that was
-
-sent_serves : (j : Joint) (p : Port) (next : Option ℕ) → IsAddress next → StandsFor FS4 j p → j.software.side ≡ ready.Loaded → j.table.in0.xfrc ≡ true
-    → StandsFor FS4 (sent_served j next) (with_address (with_stage p Sent) next)
-sent_serves j p (Some n) h f e x = address_for j p n h f e x
-sent_serves j p None h f e x = plain_for (sent_noted j) (with_stage p Sent) refl (sent_for j p f e x)
-
-finished_port : (j : Joint) (p : Port) → StandsFor FS4 j p → (side : Side) → p.bus.side ≡ side → with_stages p (finished_stage side) ≡ with_stages p (finished_stage p.bus.side)
-finished_port j p f side e = ap (λ s. with_stages p (finished_stage s)) (sym e)
-
-loaded_serves : (j : Joint) (p : Port) (x : Bool) → j.table.in0.xfrc ≡ x → StandsFor FS4 j p → j.software.side ≡ ready.Loaded
-    → StandsFor FS4 (if x then sent_served j j.software.next_address else rest_served j) (with_stages p (finished_stage p.bus.side))
-loaded_serves j p true x f e =
-    let is : p.bus.side ≡ Finished Sent = finished_is j.table j.software p.bus f.stands e x in
-    subst (λ q. StandsFor FS4 (sent_served j j.software.next_address) q) (finished_port j p f (Finished Sent) is)
-    (subst (λ n. StandsFor FS4 (sent_served j n) (with_address (with_stage p Sent) p.next_address)) f.next_address (sent_serves j p p.next_address (subst IsAddress (sym f.next_address) f.stands.core.next) f e x))
-loaded_serves j p false x f e = others_for j p (not_sent (subst (λ b. Pair b j.software.side p.bus.side) x f.stands.pair)) f
-
-last_serves : (j : Joint) (p : Port) (x : Bool) → j.table.in0.xfrc ≡ x → StandsFor FS4 j p → j.software.side ≡ ready.Last
-    → StandsFor FS4 (if x then last_served j else rest_served j) (with_stages p (finished_stage p.bus.side))
-last_serves j p true x f e =
-    others_for (record { table = cleared_ack j.table; software = record j.software { side = ready.Armed } }) p (last_not_sent (subst (λ r. Pair j.table.in0.xfrc r p.bus.side) e f.stands.pair)) (last_for j p f e x)
-last_serves j p false x f e = others_for j p (last_not_sent (subst (λ r. Pair j.table.in0.xfrc r p.bus.side) e f.stands.pair)) f
-
-serves_by : (j : Joint) (p : Port) (r : Ready) → j.software.side ≡ r → StandsFor FS4 j p → StandsFor FS4 (served_by j r) (with_stages p (finished_stage p.bus.side))
-serves_by j p ready.Loaded e f =
-    subst (λ x. StandsFor FS4 (if x then sent_served j j.software.next_address else rest_served j) (with_stages p (finished_stage p.bus.side))) (sym (acknowledged_is j))
-    (loaded_serves j p j.table.in0.xfrc refl f e)
-serves_by j p ready.Last e f =
-    subst (λ x. StandsFor FS4 (if x then last_served j else rest_served j) (with_stages p (finished_stage p.bus.side))) (sym (acknowledged_is j)) (last_serves j p j.table.in0.xfrc refl f e)
-serves_by j p ready.Off e f = others_for j p (off_not_sent (subst (λ r. Pair j.table.in0.xfrc r p.bus.side) e f.stands.pair)) f
-serves_by j p (ready.Wait q l) e f = others_for j p (wait_not_sent (subst (λ r. Pair j.table.in0.xfrc r p.bus.side) e f.stands.pair)) f
-serves_by j p ready.Armed e f = others_for j p (armed_not_sent (subst (λ r. Pair j.table.in0.xfrc r p.bus.side) e f.stands.pair)) f
-serves_by j p ready.Stall e f = others_for j p (stall_not_sent (subst (λ r. Pair j.table.in0.xfrc r p.bus.side) e f.stands.pair)) f
-
-pub serves_for : (j : Joint) (p : Port) → StandsFor FS4 j p → StandsFor FS4 (served_by j j.software.side) (with_stages p (finished_stage p.bus.side))
-serves_for j p f = serves_by j p j.software.side refl f
+pub rest_for : Laws → (j : Joint) (r : Rings) (p : Port) (q : Pipes) (f : StandsFor FS4 j p) → PipesStand FS4 j.table j.software r q
+    → Both (rest_served FS4 (record { joint = j; rings = r })) (run_port p f.stands.rx.arrivals) (all_worked q f.stands.rx.arrivals)
+unfolding all_worked in_pipes_served
+rest_for laws j r p q f ps =
+    let few : length f.stands.rx.arrivals ≤ 7 = is_counted FS4.out_eps f.stands.rx.arrivals f.stands.rx.all in
+    let taken : Taken (arrivals_taken 7 (record { joint = j; rings = r })) (zero_worked p f.stands.rx.arrivals) (pipes_worked q f.stands.rx.arrivals) =
+    taken_for laws.outs f.stands.rx.arrivals 7 j r p q few f.stands.rest.out_ends (record { zero = f; are = refl; pipes = ps }) in
+    let w = arrivals_taken 7 (record { joint = j; rings = r }) in
+    let p1 = zero_worked p f.stands.rx.arrivals in
+    let q1 = pipes_worked q f.stands.rx.arrivals in
+    all_served laws.ins (with_joint w (waiting_loaded w.joint)) (run_port p f.stands.rx.arrivals) q1
+    (record {
+      zero = waiting_for w.joint p1 taken.zero (nothing_unserved w.joint p1 taken.zero taken.nothing);
+      pipes = loaded_by w.joint.table w.joint.software w.rings q1 w.joint.software.side taken.pipes;
+    })

@@ -1,5 +1,5 @@
 -- A reset and a SETUP on the bus.
-use Rattle.std.proofs.Common.{◌≡◌, ℕ, suc, ◌+◌, ◌-◌, ◌*◌, ◌<◌, ◌≤◌, List, [], ◌∷◌, ◌++◌, length, Bool, true, false, None, refl, ap, sym, ◌∙◌, arith, append_assoc, length-append}
+use Rattle.std.proofs.Common.{◌≡◌, ℕ, suc, ◌+◌, ◌-◌, ◌*◌, ◌<◌, ◌≤◌, List, [], ◌∷◌, ◌++◌, length, Bool, true, false, None, refl, ap, sym, ◌∙◌, arith, append_assoc, length-append, subst}
 use Rattle.std.specs.Prelude.{◌||◌, ◌&&◌, ◌==◌, nat_lt, nat_le, IsTrue}
 use Rattle.std.proofs.lemmas.Bool.Decides.{nat_tests}
 use Rattle.usb_packet.specs.declared.bus.Toggle.TheVariants.{D1}
@@ -11,18 +11,22 @@ use Rattle.device_machine.specs.Bus.{Bus, disturbed}
 use Rattle.dwc2_regs.specs.declared.access.TheConstants.{FS4}
 use Rattle.dwc2_regs.specs.declared.TheConstants.{DCFG_ADDRESS}
 use Rattle.dwc2_regs.specs.Field.{field_of}
-use Rattle.dwc2_fifo.specs.Words.{word_count, words_of}
-use Rattle.dwc2_fifo.specs.Rx.{Entry, Rx, words_in, room_of}
+use Rattle.dwc2_fifo.specs.Rx.{Rx, room_of}
 use Rattle.dwc2_fifo.specs.Tx.{Tx, empty_of as tx_empty}
-use Rattle.dwc2_fifo.proofs.WordsLemmas.{length-words_of}
 use Rattle.device_table.specs.State.{Table, rx_depth}
 use Rattle.device_table.specs.Bus as table
-use Rattle.device_table.specs.Bus.{out_entries, setup_entries}
+use Rattle.device_table.specs.Bus.{setup_entries}
+use Rattle.device_arrivals.specs.Arrivals.{Arrival, Request, entries_of, requests_in}
+use Rattle.device_arrivals.proofs.Behind.{entries_of-behind, arrivals_for-behind}
+use Rattle.device_arrivals.proofs.Tells.{own}
+use Rattle.device_arrivals.proofs.Counts.{has_room}
+use Rattle.device_arrivals.proofs.Few.{few_with_request}
 use Rattle.device_relation.specs.declared.software.Ready.{Ready}
 use Rattle.device_relation.specs.Software.{Software}
 use Rattle.device_relation.specs.Relation.{Stands, CorePart, Pair, off_off, wait_wait, loaded_loaded, loaded_sent, last_last, last_armed, armed_armed, last_came, armed_came}
 use Rattle.device_relation.specs.Relation.{stall_stall, loaded_off, last_off, armed_off, stall_off, IsPacket, IsSetup, AreSetups, bytes_of_side, loaded_bytes, is_loaded, is_armed}
-use Rattle.device_relation.specs.Relation.{is_stalled, is_idle, was_heard, is_seen, is_taken, toggle_of, some_lie, came_entries, setups_entries, landed_of, tx_holding}
+use Rattle.device_relation.specs.Relation.{is_stalled, is_idle, was_heard, is_seen, is_taken, toggle_of, some_lie, came_arrivals, setups_arrivals, landed_of, tx_holding}
+use Rattle.device_relation.proofs.Entries.{requests_are}
 
 pub not_zero : (n : ℕ) → (suc n == 0) ≡ false
 not_zero n = grind (arith, nat_tests)
@@ -44,46 +48,27 @@ reset_stands t s m st = record {
   pair = st.pair;
   side = st.side;
   rx = st.rx;
-  pipes = st.pipes;
   rest = st.rest;
   core = record { awake = refl; reset = refl; address = st.core.address; landed = refl; asleep = refl; next = st.core.next };
 }
 
--- A SETUP: the words that lie in the receive FIFO.
+-- A SETUP: the receive FIFO has room for it.
 
-setup_words : (us : List (List ℕ)) → AreSetups us → words_in (setups_entries us) ≡ 4 * length us
-setup_words [] h = refl
-setup_words (b ∷ us) h =
-    let ih = setup_words us h.1 in
-    let words : length (words_of b) ≡ 2 = length-words_of b ∙ ap word_count h.0.eight in
-    omega arith
+two_of : (n : ℕ) → IsTrue (nat_lt n 3) → n ≤ 2
+two_of n h = grind (arith, nat_tests)
 
-pub came_words : (side : Side) (rest : List Entry) → IsPacket (bytes_of_side side) → words_in (came_entries side ++ rest) ≤ 18 + words_in rest
-came_words Off rest h = omega arith
-came_words (Wait packet last) rest h = omega arith
-came_words (Loaded packet) rest h = omega arith
-came_words (Last packet) rest h = omega arith
-came_words Armed rest h = omega arith
-came_words Stall rest h = omega arith
-came_words (Finished Sent) rest h = omega arith
-came_words (Finished (Came bytes)) rest h =
-    let words = length-words_of bytes in
-    let fits = h.fits in
-    omega arith
+roomy : (n : ℕ) → 4 ≤ n → nat_le 4 n ≡ true
+roomy n h = grind (arith, nat_tests)
 
-rx_words : (side : Side) (us : List (List ℕ)) → IsPacket (bytes_of_side side) → AreSetups us → words_in (came_entries side ++ setups_entries us) ≤ 18 + 4 * length us
-rx_words side us h k =
-    let words = setup_words us k in
-    let most = came_words side (setups_entries us) h in
-    omega arith
-
-room_left : (used n : ℕ) → used ≤ 18 + 4 * n → IsTrue (nat_lt n 3) → nat_le 4 (84 - (0 + used)) ≡ true
-room_left used n h k = grind (arith, nat_tests)
+pub requests_count : (t : Table) (s : Software) (m : Bus) (st : Stands FS4 t s m) → length (requests_in st.rx.arrivals) ≡ length m.unserved
+requests_count t s m st = sym (own st.rx.arrivals).requests ∙ ap length (requests_are t.rx t.core.unserved m.side m.unserved st.rx)
 
 has_place : (t : Table) (s : Software) (m : Bus) → Stands FS4 t s m → IsTrue (nat_lt (length m.unserved) 3) → nat_le 4 (room_of t.rx) ≡ true
 has_place t s m st few =
     ap (λ (rx : Rx). nat_le 4 (room_of rx)) st.rx.lie
-    ∙ room_left (words_in (came_entries m.side ++ setups_entries m.unserved)) (length m.unserved) (rx_words m.side m.unserved st.side.packet st.rx.are) few
+    ∙ roomy (room_of (record { left = []; entries = entries_of st.rx.arrivals; depth = rx_depth FS4 }))
+    ((has_room FS4 (record t { rx = record { left = []; entries = []; depth = rx_depth FS4 } }) st.rx.arrivals refl st.rx.all).request
+    (subst (λ n. n ≤ 2) (sym (requests_count t s m st)) (two_of (length m.unserved) few)))
 
 four_tests : (h ok few room : Bool) → (IsTrue few → room ≡ true) → (h && ok && few && room) ≡ (h && (ok && few))
 four_tests false ok few room k = refl
@@ -104,7 +89,7 @@ record Calm (side : Side) : Type 0 where
   loaded : is_loaded (disturbed side) ≡ false
   armed : is_armed (disturbed side) ≡ false
   bytes : loaded_bytes (disturbed side) ≡ []
-  came : came_entries (disturbed side) ≡ came_entries side
+  came : came_arrivals (disturbed side) ≡ came_arrivals side
 
 calm : (side : Side) → Calm side
 calm Off = record { stall = refl; loaded = refl; armed = refl; bytes = refl; came = refl }
@@ -158,20 +143,20 @@ some_more : (us : List (List ℕ)) (b : List ℕ) → some_lie (us ++ b ∷ []) 
 some_more [] b = refl
 some_more (u ∷ us) b = refl
 
-setups_more : (us : List (List ℕ)) (b : List ℕ) → setups_entries us ++ setup_entries b ≡ setups_entries (us ++ b ∷ [])
+setups_more : (us : List (List ℕ)) (b : List ℕ) → setups_arrivals us ++ Request b ∷ [] ≡ setups_arrivals (us ++ b ∷ [])
 setups_more [] b = refl
-setups_more (u ∷ us) b = ap (λ es. setup_entries u ++ es) (setups_more us b)
+setups_more (u ∷ us) b = ap (λ xs. Request u ∷ xs) (setups_more us b)
 
 are_more : (us : List (List ℕ)) (b : List ℕ) → AreSetups us → IsSetup b → AreSetups (us ++ b ∷ [])
 are_more [] b h k = (k, tt)
 are_more (u ∷ us) b h k = (h.0, are_more us b h.1 k)
 
-entries_more : (side : Side) (us : List (List ℕ)) (b : List ℕ)
-    → (came_entries side ++ setups_entries us) ++ setup_entries b ≡ came_entries (disturbed side) ++ setups_entries (us ++ b ∷ [])
-entries_more side us b =
-    append_assoc (came_entries side) (setups_entries us) (setup_entries b)
-    ∙ ap (λ es. came_entries side ++ es) (setups_more us b)
-    ∙ ap (λ es. es ++ setups_entries (us ++ b ∷ [])) (sym (calm side).came)
+its_more : (side : Side) (us : List (List ℕ)) (b : List ℕ)
+    → (came_arrivals side ++ setups_arrivals us) ++ Request b ∷ [] ≡ came_arrivals (disturbed side) ++ setups_arrivals (us ++ b ∷ [])
+its_more side us b =
+    append_assoc (came_arrivals side) (setups_arrivals us) (Request b ∷ [])
+    ∙ ap (λ xs. came_arrivals side ++ xs) (setups_more us b)
+    ∙ ap (λ xs. xs ++ setups_arrivals (us ++ b ∷ [])) (sym (calm side).came)
 
 pub both_ways : (b : Bool) → b ≡ false → IsTrue b → ⊥
 both_ways b e h = cc
@@ -198,12 +183,14 @@ setup_stands t s m b st h few =
         alone = ap (λ w. w && is_loaded (disturbed m.side)) lies ∙ c.loaded;
       };
       rx = record {
-        lie = ap (λ (rx : Rx). record rx { entries = rx.entries ++ setup_entries b }) st.rx.lie ∙ ap (λ es. record { left = []; entries = es; depth = rx_depth FS4 }) (entries_more m.side m.unserved b);
+        arrivals = st.rx.arrivals ++ Request b ∷ [];
+        lie = ap (λ (rx : Rx). record rx { entries = rx.entries ++ setup_entries b }) st.rx.lie ∙ ap (λ es. record { left = []; entries = es; depth = rx_depth FS4 }) (entries_of-behind st.rx.arrivals (Request b));
+        its = arrivals_for-behind 0 st.rx.arrivals (Request b) ∙ ap (λ xs. xs ++ Request b ∷ []) st.rx.its ∙ its_more m.side m.unserved b;
+        all = few_with_request FS4.out_eps st.rx.arrivals b st.rx.all (h.eight, h.below) (subst (λ n. n ≤ 2) (sym (requests_count t s m st)) (omega arith));
         counts = omega arith;
         few = omega arith;
         are = are_more m.unserved b st.rx.are h;
       };
-      pipes = st.pipes;
       rest = st.rest;
       core = record { awake = st.core.awake; reset = st.core.reset; address = st.core.address; landed = sym (landed_nothing m.awake); asleep = st.core.asleep; next = st.core.next };
     }

@@ -1,5 +1,6 @@
 -- A packet that the host acknowledged, at a handler run.
 use Rattle.std.proofs.Common.{◌≡◌, ℕ, ◌<◌, Bool, true, false, Option, Some, None, refl, ap, sym, arith, subst}
+use Rattle.std.proofs.lemmas.Bool.{or_right}
 use Rattle.device_machine.specs.declared.control.Stage.TheVariants.{Sent}
 use Rattle.device_machine.specs.declared.control.Side.{Side}
 use Rattle.device_machine.specs.declared.control.Side.TheVariants.{Off, Finished}
@@ -16,9 +17,8 @@ use Rattle.device_relation.specs.declared.software.Ready.TheVariants as ready
 use Rattle.device_relation.specs.Software.{Software, Joint}
 use Rattle.device_relation.specs.Relation.{Stands, Pair, off_off, loaded_sent, last_armed, armed_armed, last_came, armed_came, last_off, armed_off, was_heard, IsAddress}
 use Rattle.device_relation.specs.Port.{Port, StandsFor, with_stage, with_address}
-use Rattle.device_relation.specs.Run.{cleared_ack, sent_noted, sent_served, address_word, acknowledged}
+use Rattle.device_relation.specs.Run.{cleared_ack, sent_noted, address_served, address_word, acknowledged}
 use Rattle.device_relation.proofs.SetupEvents.{never, no_packet}
-use Rattle.device_relation.proofs.OutEvents.{or_true}
 
 -- the bits that a run reads
 
@@ -90,9 +90,8 @@ sent_off t s m n is st = record {
   ins = record { kept = st.ins.kept; stall = st.ins.stall; enabled = st.ins.enabled; ready = never _ refl; holds = st.ins.holds; size = never _ refl };
   outs = record { kept = st.outs.kept; stall = st.outs.stall; enabled = st.outs.enabled; naks = never _ refl; toggle = st.outs.toggle; lies = st.outs.lies };
   pair = off_off;
-  side = record { taken_is = st.side.taken_is; toggle_is = st.side.toggle_is; first = or_true (was_heard s.heard); packet = no_packet; alone = st.side.alone };
-  rx = record { lie = st.rx.lie; counts = st.rx.counts; few = st.rx.few; are = st.rx.are };
-  pipes = st.pipes;
+  side = record { taken_is = st.side.taken_is; toggle_is = st.side.toggle_is; first = or_right (was_heard s.heard) true refl; packet = no_packet; alone = st.side.alone };
+  rx = record { arrivals = st.rx.arrivals; lie = st.rx.lie; its = st.rx.its; all = st.rx.all; counts = st.rx.counts; few = st.rx.few; are = st.rx.are };
   rest = st.rest;
   core = record { awake = st.core.awake; reset = st.core.reset; address = st.core.address; landed = st.core.landed; asleep = st.core.asleep; next = is };
 }
@@ -103,7 +102,6 @@ at_finished t s m st e x = subst (λ side. Stands FS4 t s (record m { side = sid
 pub sent_for : (j : Joint) (p : Port) → StandsFor FS4 j p → j.software.side ≡ ready.Loaded → j.table.in0.xfrc ≡ true → StandsFor FS4 (sent_noted j) (with_stage p Sent)
 sent_for j p f e x = record {
   stands = sent_off j.table j.software p.bus j.software.next_address f.stands.core.next (at_finished j.table j.software p.bus f.stands e x);
-  pipes = f.pipes;
   heard = f.heard;
   next_address = f.next_address;
   reset = f.reset;
@@ -123,17 +121,15 @@ addressed_on t s m n h st = record {
   pair = st.pair;
   side = st.side;
   rx = st.rx;
-  pipes = st.pipes;
   rest = record { masks = ap (λ (k : Kept). record k { dcfg = address_word n }) st.rest.masks; hosts = st.rest.hosts; in_ends = st.rest.in_ends; out_ends = st.rest.out_ends };
   core = record { awake = st.core.awake; reset = st.core.reset; address = sym (address_is n h); landed = st.core.landed; asleep = st.core.asleep; next = st.core.next };
 }
 
 pub address_for : (j : Joint) (p : Port) (n : ℕ) → n < 128 → StandsFor FS4 j p → j.software.side ≡ ready.Loaded → j.table.in0.xfrc ≡ true
-    → StandsFor FS4 (sent_served j (Some n)) (with_address (with_stage p Sent) (Some n))
+    → StandsFor FS4 (address_served j n) (with_address (with_stage p Sent) (Some n))
 address_for j p n h f e x = record {
   stands = addressed_on (cleared_ack j.table) (record j.software { side = ready.Off; finished = Some Sent; next_address = None }) (record p.bus { side = Off }) n h
       (sent_off j.table j.software p.bus None tt (at_finished j.table j.software p.bus f.stands e x));
-  pipes = f.pipes;
   heard = f.heard;
   next_address = refl;
   reset = f.reset;
@@ -159,11 +155,9 @@ last_for j p f e x =
         pair = pair_armed (subst (λ r. Pair true r p.bus.side) e (subst (λ b. Pair b j.software.side p.bus.side) x st.pair));
         side = st.side;
         rx = st.rx;
-        pipes = st.pipes;
         rest = st.rest;
         core = record { awake = st.core.awake; reset = st.core.reset; address = st.core.address; landed = st.core.landed; asleep = st.core.asleep; next = st.core.next };
       };
-      pipes = f.pipes;
       heard = f.heard;
       next_address = f.next_address;
       reset = f.reset;

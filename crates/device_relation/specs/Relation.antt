@@ -1,57 +1,34 @@
--- Which device the controller and the driver's software are together, and what holds of them.
-use Rattle.std.specs.Prelude.{◌≡◌, ℕ, suc, ◌+◌, ◌^◌, ◌<◌, ◌≤◌, ◌==◌, ◌&&◌, ◌||◌, not, nat_le, Bool, true, false, if◌then◌else◌, IsTrue, List, [], ◌∷◌, ◌++◌, length, take, Option, Some, None, slice_index, slice_index_or, map}
+-- Which device the controller and the driver's software are together, and what holds of them. This is endpoint 0, and what the
+-- endpoints share; `PipeRelation` has the others.
+use Rattle.std.specs.Prelude.{◌≡◌, ℕ, ◌+◌, ◌^◌, ◌<◌, ◌≤◌, ◌&&◌, ◌||◌, not, Bool, true, false, if◌then◌else◌, IsTrue, List, [], ◌∷◌, ◌++◌, length, Option, Some, None, slice_index}
 use Rattle.usb_packet.specs.declared.bus.Toggle.{Toggle}
 use Rattle.usb_packet.specs.declared.bus.Toggle.TheVariants.{D0, D1}
-use Rattle.usb_descriptor.specs.Set.{is_core}
-use Rattle.device_pipe.specs.OutPipe as out
-use Rattle.device_pipe.specs.InPipe as pipe
 use Rattle.device_machine.specs.declared.control.Stage.TheVariants.{Sent, Came}
 use Rattle.device_machine.specs.declared.control.Side.{Side}
 use Rattle.device_machine.specs.declared.control.Side.TheVariants.{Off, Wait, Loaded, Last, Armed, Stall, Finished}
-use Rattle.device_machine.specs.Packets.{numbers_from}
-use Rattle.device_machine.specs.Pipes.{Pipes, OutSlot, InSlot, top_number, no_out_slot, no_in_slot, out_hears, in_hears}
 use Rattle.device_machine.specs.Bus.{Bus, is_empty}
-use Rattle.dwc2_regs.specs.declared.TheConstants.{DCFG_ADDRESS, DIEPCTL_USBAEP, GRXSTSP_BYTES}
+use Rattle.dwc2_regs.specs.declared.TheConstants.{DCFG_ADDRESS}
 use Rattle.dwc2_regs.specs.Field.{field_of}
-use Rattle.dwc2_fifo.specs.Words.{bytes_in}
 use Rattle.dwc2_fifo.specs.Rx.{Entry, Rx}
 use Rattle.dwc2_fifo.specs.Tx.{Tx, Tagged}
 use Rattle.dwc2_regs.specs.declared.access.Profile.{Profile}
-use Rattle.device_table.specs.State.{Table, Kept, Host, Control, InEnd, OutEnd, in_end_of, no_out_end, opened, tx0_depth, rx_depth}
-use Rattle.device_table.specs.Words.{flag, packet_size, out_data, setup_data, kind_of}
-use Rattle.device_table.specs.Bus.{out_entries, setup_entries}
+use Rattle.device_table.specs.State.{Table, Kept, Host, InEnd, OutEnd, opened, tx0_depth, rx_depth}
+use Rattle.device_arrivals.specs.Arrivals.{Arrival, Request, Packet, Landed, entries_of, arrivals_for, packets_at, setups_in, AreFew}
 use Rattle.device_relation.specs.declared.software.Ready.{Ready}
 use Rattle.device_relation.specs.declared.software.Ready.TheVariants as ready
 use Rattle.device_relation.specs.declared.software.Heard.{Heard}
 use Rattle.device_relation.specs.declared.software.Heard.TheVariants as heard
-use Rattle.device_relation.specs.declared.software.OutEndpoint.{OutEndpoint}
-use Rattle.device_relation.specs.declared.software.OutEndpoint.TheVariants as outward
-use Rattle.device_relation.specs.declared.software.InEndpoint.{InEndpoint}
-use Rattle.device_relation.specs.declared.software.InEndpoint.TheVariants as inward
 use Rattle.device_relation.specs.Software.{Software, Joint}
 
--- The entries of the receive FIFO.
+-- The receive FIFO.
 
--- the bytes of an entry: as many as its status says, from its words
-abbrev pub bytes_of_entry : Entry → List ℕ
-bytes_of_entry entry = take (field_of entry.status GRXSTSP_BYTES) (bytes_in entry.words)
+-- the packet from the host that lies there for endpoint 0
+abbrev pub first_bytes : List Landed → Option (List ℕ)
+first_bytes [] = None
+first_bytes (packet ∷ packets) = Some packet.bytes
 
--- the packet from the host at the front
 abbrev pub packet_in : List Entry → Option (List ℕ)
-packet_in [] = None
-packet_in (entry ∷ entries) = if kind_of entry.status == out_data then Some (bytes_of_entry entry) else None
-
--- the SETUPs, in order
-abbrev pub setups_in : List Entry → List (List ℕ)
-setups_in [] = []
-setups_in (entry ∷ entries) = if kind_of entry.status == setup_data then bytes_of_entry entry ∷ setups_in entries else setups_in entries
-
--- the endpoint of a number less 1
-abbrev pub in_at : List InEnd → ℕ → InEnd
-in_at ends n = slice_index_or ends n (in_end_of 0)
-
-abbrev pub out_at : List OutEnd → ℕ → OutEnd
-out_at ends n = slice_index_or ends n no_out_end
+packet_in entries = first_bytes (packets_at 0 entries)
 
 -- Endpoint 0.
 
@@ -147,33 +124,6 @@ abstract j =
       taken = is_taken (some_lie setups) s.heard (side_of t s);
       toggle = toggle_of (is_seen (some_lie setups) s.heard) t.in0.toggle;
     }
-
--- The endpoints other than 0, by number less 1: what the driver keeps of each.
-
-abbrev pub out_kept : List OutEndpoint → ℕ → OutEndpoint
-out_kept kept n = slice_index_or kept n outward.Closed
-
-abbrev pub in_kept : List InEndpoint → ℕ → InEndpoint
-in_kept kept n = slice_index_or kept n inward.Closed
-
--- and what each is: one that is open is at rest, since the core never arms or starts it
-abbrev pub out_slot_of : OutEndpoint → OutSlot
-out_slot_of outward.Closed = no_out_slot
-out_slot_of (outward.Open e halted) = record { endpoint = e; pipe = record { phase = out.Rest; halted = halted; toggle = D0; held = [] } }
-
-abbrev pub in_slot_of : InEndpoint → InSlot
-in_slot_of inward.Closed = no_in_slot
-in_slot_of (inward.Open e halted) = record { endpoint = e; pipe = record { queue = []; phase = pipe.Rest; loaded = 0; toggle = D0; halted = halted } }
-
-abbrev pub out_slot_at : Joint → ℕ → OutSlot
-out_slot_at j n = out_slot_of (out_kept j.software.outs n)
-
-abbrev pub in_slot_at : Joint → ℕ → InSlot
-in_slot_at j n = in_slot_of (in_kept j.software.ins n)
-
--- the pipes of the device
-abbrev pub abstract_pipes : Joint → Pipes
-abstract_pipes j = record { outs = map (out_slot_at j) (numbers_from 0 top_number); ins = map (in_slot_at j) (numbers_from 0 top_number) }
 
 -- What holds of controller and software, part by part, each over the registers and the part of the device that it ties.
 
@@ -296,20 +246,20 @@ pub record SidePart (taken : Bool) (toggle : Toggle) (side : Side) (waits : Bool
   -- nothing is loaded while a SETUP lies in the receive FIFO
   pub alone : (waits && is_loaded side) ≡ false
 
--- the receive FIFO: the packet that came, and then the SETUPs
-abbrev pub came_entries : Side → List Entry
-came_entries (Finished (Came bytes)) = out_entries 0 D1 bytes
-came_entries (Finished Sent) = []
-came_entries Off = []
-came_entries (Wait packet last) = []
-came_entries (Loaded packet) = []
-came_entries (Last packet) = []
-came_entries Armed = []
-came_entries Stall = []
+-- the receive FIFO: of endpoint 0 the packet that came, and then the SETUPs
+abbrev pub came_arrivals : Side → List Arrival
+came_arrivals (Finished (Came bytes)) = Packet 0 D1 bytes ∷ []
+came_arrivals (Finished Sent) = []
+came_arrivals Off = []
+came_arrivals (Wait packet last) = []
+came_arrivals (Loaded packet) = []
+came_arrivals (Last packet) = []
+came_arrivals Armed = []
+came_arrivals Stall = []
 
-abbrev pub setups_entries : List (List ℕ) → List Entry
-setups_entries [] = []
-setups_entries (bytes ∷ setups) = setup_entries bytes ++ setups_entries setups
+abbrev pub setups_arrivals : List (List ℕ) → List Arrival
+setups_arrivals [] = []
+setups_arrivals (bytes ∷ setups) = Request bytes ∷ setups_arrivals setups
 
 pub record IsSetup (bytes : List ℕ) : Type 0 where
   pub eight : length bytes ≡ 8
@@ -320,33 +270,13 @@ AreSetups [] = Unit {0}
 AreSetups (bytes ∷ setups) = IsSetup bytes × AreSetups setups
 
 pub record FifoPart (profile : Profile) (rx : Rx) (counted : ℕ) (side : Side) (setups : List (List ℕ)) : Type 0 where
-  pub lie : rx ≡ record { left = []; entries = came_entries side ++ setups_entries setups; depth = rx_depth profile }
+  pub arrivals : List Arrival
+  pub lie : rx ≡ record { left = []; entries = entries_of arrivals; depth = rx_depth profile }
+  pub its : arrivals_for 0 arrivals ≡ came_arrivals side ++ setups_arrivals setups
+  pub all : AreFew profile.out_eps arrivals
   pub counts : counted ≡ length setups
   pub few : length setups ≤ 3
   pub are : AreSetups setups
-
--- an endpoint other than 0, by its number: it hears what the pipe hears, and answers NAK, halted or not
-abbrev pub is_used : Control → Bool
-is_used control = flag control.kept DIEPCTL_USBAEP
-
-pub record OutEndPart (number : ℕ) (end : OutEnd) (kept : OutEndpoint) : Type 0 where
-  pub hears : (bytes : ℕ) → (is_used end.control && nat_le bytes (packet_size number end.control)) ≡ out_hears (out_slot_of kept) bytes
-  pub naks : IsTrue (is_used end.control) → end.control.nak ≡ true
-  pub stall : end.control.stall ≡ false
-  pub core : is_core (out_slot_of kept).endpoint.owner ≡ true
-
-pub record InEndPart (end : InEnd) (kept : InEndpoint) : Type 0 where
-  pub hears : is_used end.control ≡ in_hears (in_slot_of kept)
-  pub naks : IsTrue (is_used end.control) → end.control.nak ≡ true
-  pub stall : end.control.stall ≡ false
-  pub core : is_core (in_slot_of kept).endpoint.owner ≡ true
-
--- all of them
-pub record PipesPart (profile : Profile) (ins : List InEnd) (outs : List OutEnd) (kept_ins : List InEndpoint) (kept_outs : List OutEndpoint) : Type 0 where
-  pub each_out : (n : ℕ) → OutEndPart (suc n) (out_at outs n) (out_kept kept_outs n)
-  pub each_in : (n : ℕ) → InEndPart (in_at ins n) (in_kept kept_ins n)
-  pub outs_count : length kept_outs ≡ profile.out_eps
-  pub ins_count : length kept_ins ≡ profile.in_eps
 
 -- the rest: masks and sizes as in the opened state, and the endpoints of the profile
 pub record RestPart (profile : Profile) (kept : Kept) (host : Host) (ins : List InEnd) (outs : List OutEnd) : Type 0 where
@@ -380,10 +310,5 @@ pub record Stands (profile : Profile) (t : Table) (s : Software) (m : Bus) : Typ
   pub pair : Pair t.in0.xfrc s.side m.side
   pub side : SidePart m.taken m.toggle m.side (some_lie m.unserved) s.heard t.in0.toggle
   pub rx : FifoPart profile t.rx t.core.unserved m.side m.unserved
-  pub pipes : PipesPart profile t.ins t.outs s.ins s.outs
   pub rest : RestPart profile t.kept t.host t.ins t.outs
   pub core : CorePart t s m
-
--- controller and software agree, on a controller of this profile
-abbrev pub IsSound : Profile → Joint → Type 0
-IsSound profile j = Stands profile j.table j.software (abstract j)

@@ -1,10 +1,8 @@
 -- What a handler run and each call of the driver do to the registers and to what it keeps.
-use Rattle.std.specs.Prelude.{ℕ, zero, suc, ◌+◌, ◌-◌, ◌&&◌, nat_lt, nat_le, slice_set, ◌*◌, ◌^◌, ◌==◌, Bool, true, false, if◌then◌else◌, List, [], ◌∷◌, length, take, min, max, Option, Some, None}
+use Rattle.std.specs.Prelude.{ℕ, zero, suc, ◌+◌, ◌*◌, ◌^◌, ◌==◌, Bool, true, false, if◌then◌else◌, List, [], ◌∷◌, ◌++◌, length, take, min, max, Option, Some, None}
 use Rattle.dwc2_regs.specs.declared.access.Profile.{Profile}
-use Rattle.dwc2_regs.specs.declared.access.TheConstants.{FS4}
 use Rattle.usb_descriptor.specs.declared.endpoint.Endpoint.{Endpoint}
-use Rattle.usb_descriptor.specs.declared.endpoint.EpKind.{EpKind}
-use Rattle.usb_descriptor.specs.declared.endpoint.EpKind.TheVariants.{Bulk, Interrupt}
+use Rattle.usb_ring.specs.Ring.{Ring, appended, without_first, room}
 use Rattle.device_machine.specs.declared.control.Stage.TheVariants.{Sent, Came}
 use Rattle.dwc2_regs.specs.declared.bits.Field.{Field}
 use Rattle.dwc2_regs.specs.declared.TheConstants.{GRSTCTL_TXFFLSH, GRSTCTL_TXFNUM, DIEPCTL_STALL, DIEPCTL_CNAK, DIEPCTL_SNAK, DIEPCTL_EPDIS, DIEPCTL_EPENA, DIEPINT_XFRC}
@@ -14,20 +12,25 @@ use Rattle.dwc2_regs.specs.Field.{field_of}
 use Rattle.dwc2_regs.specs.Register.{grstctl, gintsts, grxstsp, dcfg, diepctl, diepint, dieptsiz, doepctl, doepint, doeptsiz, fifo}
 use Rattle.dwc2_fifo.specs.Words.{word_count, words_of, bytes_in}
 use Rattle.dwc2_fifo.specs.Rx.{first_word, words_behind}
-use Rattle.device_table.specs.State.{Table}
-use Rattle.device_table.specs.Words.{flag, out_data, out_done, setup_data, setup_done, kind_of}
+use Rattle.device_table.specs.State.{Table, InEnd, OutEnd, in_end, out_end, with_in, with_out}
+use Rattle.device_table.specs.Words.{flag, out_data, setup_data, kind_of, number_of}
 use Rattle.device_table.specs.Read.{value_read, after_read}
 use Rattle.device_table.specs.Write.{after_write}
 use Rattle.device_relation.specs.declared.software.Ready.{Ready}
 use Rattle.device_relation.specs.declared.software.Ready.TheVariants as ready
 use Rattle.device_relation.specs.declared.software.Heard.{Heard}
 use Rattle.device_relation.specs.declared.software.Heard.TheVariants as heard
-use Rattle.device_relation.specs.declared.software.OutEndpoint.{OutEndpoint}
-use Rattle.device_relation.specs.declared.software.OutEndpoint.TheVariants as outward
-use Rattle.device_relation.specs.declared.software.InEndpoint.{InEndpoint}
-use Rattle.device_relation.specs.declared.software.InEndpoint.TheVariants as inward
-use Rattle.device_relation.specs.Software.{Software, Joint, no_outs, no_ins, unused}
-use Rattle.device_relation.specs.Relation.{was_packet, one_packet, out_kept, in_kept}
+use Rattle.device_rings.specs.Rings.{Rings, out_ring, in_ring, with_out_ring, with_in_ring, emptied, all_emptied}
+use Rattle.endpoint_relation.specs.declared.out_.OutEndpoint.{OutEndpoint}
+use Rattle.endpoint_relation.specs.OutSteps.{moved, noted, armed_end, armed, halted, halted_end, cleared, cleared_end, opened, opened_end, closed, closed_end}
+use Rattle.endpoint_relation.specs.declared.in_.InState.TheVariants.{Rest}
+use Rattle.endpoint_relation.specs.declared.in_.InEndpoint.{InEndpoint}
+use Rattle.endpoint_relation.specs.InRelation.{InJoint}
+use Rattle.endpoint_relation.specs.InSteps.{in_served, in_noted, software_started, in_halted, in_cleared, in_dropped, in_opened, in_closed}
+use Rattle.endpoint_relation.specs.InTable.{with_flushed}
+use Rattle.device_relation.specs.Software.{Joint, unused, out_kept, in_kept, with_out_kept, with_in_kept}
+use Rattle.device_relation.specs.Relation.{was_packet, one_packet}
+use Rattle.device_relation.specs.PipeRelation.{in_joint}
 
 -- the word in which these bits alone are 1
 abbrev pub ones : List Field → ℕ
@@ -109,26 +112,66 @@ setup_ended j = record {
   software = record j.software { side = ready.Off; heard = heard.Setup; next_address = None };
 }
 
--- by the kind of the entry that was popped
-abbrev pub entry_taken : Joint → ℕ → Joint
-entry_taken j status =
-    if kind_of status == setup_data then setup_taken j
-    else if kind_of status == setup_done then setup_ended j
-    else if kind_of status == out_data then packet_taken j (byte_count status)
-    else if kind_of status == out_done then with_table j (after_write j.table (doepint 0) xfrc)
-    else j
+-- the controller, the driver's software and the rings
+pub record Whole : Type 0 where
+  pub joint : Joint
+  pub rings : Rings
 
--- entries are popped until none is left, at most so many
-unfoldable pub entries_taken : ℕ → Joint → Joint
-entries_taken zero j = j
-entries_taken (suc n) j =
-    let status = value_read j.table grxstsp in
-    let popped = with_table j (after_read j.table grxstsp) in
-    if status == 0 then popped else entries_taken n (entry_taken popped status)
+abbrev pub with_joint : Whole → Joint → Whole
+with_joint w j = record w { joint = j }
 
--- a packet and three SETUPs have two entries each
-abbrev pub most_entries : ℕ
-most_entries = 8
+-- the entry that ends what was taken is popped
+abbrev pub end_popped : Joint → Joint
+end_popped j = with_table j (after_read j.table grxstsp)
+
+abbrev pub xfrc_cleared : Joint → ℕ → Joint
+xfrc_cleared j number = with_table j (after_write j.table (doepint number) xfrc)
+
+-- of a packet on another endpoint the words go to its ring; one that was dropped with its pipe is passed over
+abbrev pub into_ring : Whole → ℕ → ℕ → Whole
+into_ring w number bytes = record {
+  joint = with_table w.joint (after_words (word_count bytes) w.joint.table);
+  rings = with_out_ring w.rings number (appended (out_ring w.rings number) (bytes_read bytes w.joint.table));
+}
+
+abbrev pub taken_unless : Bool → Whole → ℕ → ℕ → Whole
+taken_unless true w number bytes = w
+taken_unless false w number bytes = into_ring w number bytes
+
+abbrev pub with_moved : Joint → ℕ → Joint
+with_moved j number = record j { software = with_out_kept j.software number (moved (out_kept j.software number)) }
+
+abbrev pub pipe_taken : Whole → ℕ → ℕ → Whole
+pipe_taken w number bytes =
+    let taken = taken_unless (out_kept w.joint.software number).over w number bytes in
+    with_joint taken (with_moved (xfrc_cleared (end_popped taken.joint) number) number)
+
+abbrev pub packet_from : Whole → ℕ → ℕ → Whole
+packet_from w zero bytes = with_joint w (xfrc_cleared (end_popped (packet_taken w.joint bytes)) 0)
+packet_from w (suc n) bytes = pipe_taken w (suc n) bytes
+
+-- what came, by the word that tells of its data
+abbrev pub arrival_taken : Whole → ℕ → Whole
+arrival_taken w status =
+    if kind_of status == setup_data then with_joint w (setup_ended (end_popped (setup_taken w.joint)))
+    else if kind_of status == out_data then packet_from w (number_of status) (byte_count status)
+    else w
+
+-- one after another is taken until nothing is left, at most so many
+unfoldable pub arrivals_taken : ℕ → Whole → Whole
+arrivals_taken zero w = w
+arrivals_taken (suc n) w =
+    let status = value_read w.joint.table grxstsp in
+    let popped = with_joint w (with_table w.joint (after_read w.joint.table grxstsp)) in
+    if status == 0 then popped else arrivals_taken n (arrival_taken popped status)
+
+-- three SETUPs, and a packet of each OUT endpoint, endpoint 0 among them
+abbrev pub most_arrivals : Profile → ℕ
+most_arrivals profile = profile.out_eps + 4
+
+-- each has two entries
+abbrev pub most_entries : Profile → ℕ
+most_entries profile = 2 * most_arrivals profile
 
 -- Loading.
 
@@ -180,28 +223,55 @@ cleared_ack t = after_write t (diepint 0) xfrc
 abbrev pub sent_noted : Joint → Joint
 sent_noted j = record { table = cleared_ack j.table; software = record j.software { side = ready.Off; finished = Some Sent } }
 
+-- The IN endpoints other than 0.
+
+abbrev pub with_in_joint : Whole → ℕ → InJoint → Whole
+with_in_joint w n i = record {
+  joint = record { table = with_in w.joint.table n i.end; software = with_in_kept w.joint.software n i.software };
+  rings = with_in_ring w.rings n (record (in_ring w.rings n) { bytes = i.ring });
+}
+
+abbrev pub in_joint_of : Whole → ℕ → InJoint
+in_joint_of w n = in_joint w.joint.table w.joint.software w.rings n
+
+abbrev pub in_pipe_served : Whole → ℕ → Whole
+in_pipe_served w n = with_in_joint w n (in_served n (in_joint_of w n))
+
+-- so many of them, from this number on
+unfoldable pub in_pipes_served : ℕ → ℕ → Whole → Whole
+in_pipes_served zero n w = w
+in_pipes_served (suc k) n w = in_pipes_served k (n + 1) (in_pipe_served w n)
+
 -- what the run does from there on
-abbrev pub rest_served : Joint → Joint
-rest_served j = waiting_loaded (entries_taken most_entries j)
+abbrev pub rest_served : Profile → Whole → Whole
+rest_served profile w =
+    let taken = arrivals_taken (most_arrivals profile) w in
+    in_pipes_served profile.in_eps 1 (with_joint taken (waiting_loaded taken.joint))
 
 -- where a new address was to come, it comes, and nothing else is served
-abbrev pub sent_served : Joint → Option ℕ → Joint
-sent_served j (Some address) = record {
+abbrev pub address_served : Joint → ℕ → Joint
+address_served j address = record {
   table = after_write (cleared_ack j.table) dcfg (address_word address);
   software = record j.software { side = ready.Off; next_address = None; finished = Some Sent };
 }
-sent_served j None = rest_served (sent_noted j)
 
-abbrev pub last_served : Joint → Joint
-last_served j = rest_served (record { table = cleared_ack j.table; software = record j.software { side = ready.Armed } })
+abbrev pub sent_served : Profile → Whole → Option ℕ → Whole
+sent_served profile w (Some address) = with_joint w (address_served w.joint address)
+sent_served profile w None = rest_served profile (with_joint w (sent_noted w.joint))
 
-abbrev pub served_by : Joint → Ready → Joint
-served_by j ready.Loaded = if acknowledged j then sent_served j j.software.next_address else rest_served j
-served_by j ready.Last = if acknowledged j then last_served j else rest_served j
-served_by j ready.Off = rest_served j
-served_by j (ready.Wait packet last) = rest_served j
-served_by j ready.Armed = rest_served j
-served_by j ready.Stall = rest_served j
+abbrev pub last_acknowledged : Joint → Joint
+last_acknowledged j = record { table = cleared_ack j.table; software = record j.software { side = ready.Armed } }
+
+abbrev pub last_served : Profile → Whole → Whole
+last_served profile w = rest_served profile (with_joint w (last_acknowledged w.joint))
+
+abbrev pub served_by : Profile → Whole → Ready → Whole
+served_by profile w ready.Loaded = if acknowledged w.joint then sent_served profile w w.joint.software.next_address else rest_served profile w
+served_by profile w ready.Last = if acknowledged w.joint then last_served profile w else rest_served profile w
+served_by profile w ready.Off = rest_served profile w
+served_by profile w (ready.Wait packet last) = rest_served profile w
+served_by profile w ready.Armed = rest_served profile w
+served_by profile w ready.Stall = rest_served profile w
 
 -- A reset.
 
@@ -238,16 +308,16 @@ popped_all (suc n) t = if value_read t grxstsp == 0 then after_read t grxstsp el
 abbrev pub reset_served : Profile → Table → Table
 reset_served profile t =
     let closed = pipes_closed profile (after_write t dcfg 0) in
-    let empty = popped_all most_entries (after_write closed grstctl flush_all) in
+    let empty = popped_all (most_entries profile) (after_write closed grstctl flush_all) in
     after_write (all_cleared profile empty) gintsts reset_bits
 
 -- A handler run.
 
-abbrev pub run : Profile → Joint → Joint
-run profile j =
-    if flag (value_read j.table gintsts) GINTSTS_USBRST
-    then record { table = reset_served profile j.table; software = unused true }
-    else served_by j j.software.side
+abbrev pub run : Profile → Whole → Whole
+run profile w =
+    if flag (value_read w.joint.table gintsts) GINTSTS_USBRST
+    then record { joint = record { table = reset_served profile w.joint.table; software = unused profile true }; rings = all_emptied w.rings }
+    else served_by profile w w.joint.software.side
 
 -- Each call.
 
@@ -272,72 +342,94 @@ run_stall j = record { table = after_write (after_write j.table (diepctl 0) stal
 abbrev pub run_address : Joint → ℕ → Joint
 run_address j address = record j { software = record j.software { next_address = Some address } }
 
--- the control word of an open endpoint: its size, USBAEP, its type (2 bulk, 3 interrupt), its FIFO, SNAK and SD0PID
-abbrev pub type_of : EpKind → ℕ
-type_of Bulk = 2
-type_of Interrupt = 3
+-- The other endpoints: each call changes one.
 
-abbrev pub open_word : Endpoint → ℕ → ℕ
-open_word e number = e.size + 2 ^ 15 + 2 ^ 18 * type_of e.kind + 2 ^ 22 * number + 2 ^ 27 + 2 ^ 28
+abbrev pub with_out_parts : Joint → ℕ → OutEnd → OutEndpoint → Joint
+with_out_parts j n end kept = record { table = with_out j.table n end; software = with_out_kept j.software n kept }
+
+abbrev pub with_in_parts : Joint → ℕ → InEnd → InEndpoint → Joint
+with_in_parts j n end kept = record { table = with_in j.table n end; software = with_in_kept j.software n kept }
 
 abbrev pub run_open_out : Joint → Endpoint → Joint
-run_open_out j e = record {
-  table = after_write j.table (doepctl e.addr) (open_word e 0);
-  software = record j.software { outs = slice_set j.software.outs (e.addr - 1) (outward.Open e false) };
-}
+run_open_out j e =
+    let s = out_kept j.software e.addr in
+    with_out_parts j e.addr (opened_end (out_end j.table e.addr) s e) (opened s e)
 
 abbrev pub run_open_in : Joint → Endpoint → ℕ → Joint
-run_open_in j e number = record {
-  table = after_write j.table (diepctl number) (open_word e number);
-  software = record j.software { ins = slice_set j.software.ins (number - 1) (inward.Open e false) };
-}
+run_open_in j e n =
+    let after = in_opened n e (record { end = in_end j.table n; software = in_kept j.software n; ring = [] }) in
+    with_in_parts j n after.end after.software
 
-abbrev pub run_close : Profile → Joint → Joint
-run_close profile j = record { table = others_closed profile j.table; software = record j.software { outs = no_outs; ins = no_ins } }
+abbrev pub run_arm_out : Joint → ℕ → Joint
+run_arm_out j n =
+    let s = out_kept j.software n in
+    with_out_parts j n (armed_end (out_end j.table n) s) (armed s)
 
--- A halt of an endpoint of the core is known to the software alone.
+-- a transfer of so many bytes starts: in the software alone
+abbrev pub run_start_in : Joint → ℕ → List ℕ → Joint
+run_start_in j n bytes = record j { software = with_in_kept j.software n (software_started Rest (in_kept j.software n) bytes) }
 
-abbrev pub out_with_halt : Bool → OutEndpoint → OutEndpoint
-out_with_halt halted outward.Closed = outward.Closed
-out_with_halt halted (outward.Open e before) = outward.Open e halted
+abbrev pub run_halt_out : Joint → ℕ → Joint
+run_halt_out j n =
+    let s = out_kept j.software n in
+    with_out_parts j n (halted_end (out_end j.table n) s) (halted s)
 
-abbrev pub in_with_halt : Bool → InEndpoint → InEndpoint
-in_with_halt halted inward.Closed = inward.Closed
-in_with_halt halted (inward.Open e before) = inward.Open e halted
+abbrev pub run_halt_in : Joint → ℕ → Joint
+run_halt_in j n =
+    let after = in_halted n (record { end = in_end j.table n; software = in_kept j.software n; ring = [] }) in
+    with_in_parts j n after.end after.software
 
--- whether it is halted
-abbrev pub out_is_halted : OutEndpoint → Bool
-out_is_halted outward.Closed = false
-out_is_halted (outward.Open e halted) = halted
+abbrev pub run_clear_out : Joint → ℕ → Joint
+run_clear_out j n =
+    let s = out_kept j.software n in
+    with_out_parts j n (cleared_end (out_end j.table n) s) (cleared s)
 
-abbrev pub in_is_halted : InEndpoint → Bool
-in_is_halted inward.Closed = false
-in_is_halted (inward.Open e halted) = halted
+-- GRSTCTL keeps the number of the FIFO that was flushed, and not TXFFLSH
+abbrev pub flushed : Whole → ℕ → Whole
+flushed w n = with_joint w (with_table w.joint (with_flushed w.joint.table n))
 
--- by number: from 1 to as many as the controller has
-abbrev pub is_number : ℕ → ℕ → Bool
-is_number most number = nat_lt 0 number && nat_le number most
+abbrev pub run_clear_in : Whole → ℕ → Whole
+run_clear_in w n = flushed (with_in_joint w n (in_cleared n (in_joint_of w n))) n
 
-abbrev pub out_numbered : List OutEndpoint → ℕ → OutEndpoint
-out_numbered kept number = if is_number FS4.out_eps number then out_kept kept (number - 1) else outward.Closed
+abbrev pub run_drop_in : Whole → ℕ → Whole
+run_drop_in w n = flushed (with_in_joint w n (in_dropped n (in_joint_of w n))) n
 
-abbrev pub in_numbered : List InEndpoint → ℕ → InEndpoint
-in_numbered kept number = if is_number FS4.in_eps number then in_kept kept (number - 1) else inward.Closed
+-- what an OUT ring holds is dropped, and so many bytes of it are read: no register has part in it
+abbrev pub run_drop_out : Whole → ℕ → Whole
+run_drop_out w n = record w { rings = with_out_ring w.rings n (emptied (out_ring w.rings n)) }
 
-abbrev pub is_halted_at : Software → ℕ → Bool
-is_halted_at s address =
-    if nat_lt address 128 then out_is_halted (out_numbered s.outs address) else in_is_halted (in_numbered s.ins (address - 128))
+abbrev pub run_read_out : Whole → ℕ → ℕ → Whole
+run_read_out w n count = record w { rings = with_out_ring w.rings n (without_first (out_ring w.rings n) count) }
 
-abbrev pub outs_with_halt : List OutEndpoint → ℕ → Bool → List OutEndpoint
-outs_with_halt kept number halted =
-    if is_number FS4.out_eps number then slice_set kept (number - 1) (out_with_halt halted (out_kept kept (number - 1))) else kept
+-- as many bytes are written to an IN ring as it has room for
+abbrev pub run_write_in : Whole → ℕ → List ℕ → Whole
+run_write_in w n bytes = record w { rings = with_in_ring w.rings n (appended (in_ring w.rings n) (take (room (in_ring w.rings n)) bytes)) }
 
-abbrev pub ins_with_halt : List InEndpoint → ℕ → Bool → List InEndpoint
-ins_with_halt kept number halted =
-    if is_number FS4.in_eps number then slice_set kept (number - 1) (in_with_halt halted (in_kept kept (number - 1))) else kept
+-- a task takes the note of one pipe: in the software alone
+abbrev pub run_note_out : Joint → ℕ → Joint
+run_note_out j n = record j { software = with_out_kept j.software n (noted (out_kept j.software n)) }
 
-abbrev pub run_halt : Joint → Bool → ℕ → Joint
-run_halt j halted address =
-    if nat_lt address 128
-    then record j { software = record j.software { outs = outs_with_halt j.software.outs address halted } }
-    else record j { software = record j.software { ins = ins_with_halt j.software.ins (address - 128) halted } }
+abbrev pub run_note_in : Joint → ℕ → Joint
+run_note_in j n = record j { software = with_in_kept j.software n (record (in_kept j.software n) { state = in_noted (in_kept j.software n).state }) }
+
+-- a session ends: each endpoint of both directions is closed
+abbrev pub close_out : Joint → ℕ → Joint
+close_out j n =
+    let s = out_kept j.software n in
+    with_out_parts j n (closed_end (out_end j.table n)) (closed (out_end j.table n) s)
+
+unfoldable pub outs_closed : ℕ → ℕ → Joint → Joint
+outs_closed zero n j = j
+outs_closed (suc k) n j = outs_closed k (n + 1) (close_out j n)
+
+abbrev pub close_in : Whole → ℕ → Whole
+close_in w n = flushed (with_in_joint w n (in_closed (in_joint_of w n))) n
+
+unfoldable pub ins_closed : ℕ → ℕ → Whole → Whole
+ins_closed zero n w = w
+ins_closed (suc k) n w = ins_closed k (n + 1) (close_in w n)
+
+abbrev pub run_close : Profile → Whole → Whole
+run_close profile w =
+    let after = ins_closed profile.in_eps 1 (with_joint w (outs_closed profile.out_eps 1 w.joint)) in
+    record after { rings = all_emptied after.rings }

@@ -9,4 +9,4 @@
 pub mod laws;
 mod software;
 
-pub use software::{Heard, InEndpoint, OutEndpoint, Ready};
+pub use software::{Heard, Ready};

@@ -22,7 +22,7 @@ write_still old new off word due e = ap (λ (b : Bank). b.due) e ∙ still old d
   still : (b : Bank) → b.due ≡ [] → (bank_write b off word).due ≡ []
   still b e = rw (e) refl
 
--- the list tells each access
+-- the list tells a read and a write
 pub read_told : (old new : Bank) (off : ℕ) → old.due ≡ [] → new ≡ bank_read old off
     → new.log ≡ old.log ++ record { write = false; off = off; value = read_value old.table off } ∷ []
 read_told old new off due e = ap (λ (b : Bank). b.log) e ∙ told old due where

@@ -8,8 +8,7 @@ use Rattle.dwc2_fifo.specs.Words.{bytes_in}
 use Rattle.dwc2_fifo.specs.Rx.{first_word, words_behind}
 use Rattle.device_table.specs.State.{Table}
 use Rattle.device_table.specs.Read.{value_read, after_read}
-use Rattle.device_relation.specs.Software.{Joint}
-use Rattle.device_relation.specs.Run.{with_table, after_words, words_read, entry_taken, entries_taken, popped_all}
+use Rattle.device_relation.specs.Run.{Whole, with_joint, with_table, after_words, words_read, arrival_taken, arrivals_taken, popped_all}
 
 one_less : (n i : ℕ) → i < n → n - i ≡ suc (n - (i + 1))
 one_less n i h = omega arith
@@ -25,42 +24,43 @@ words_read-step n i left items h =
 is_zero : (n : ℕ) → n ≡ 0 → (n == 0) ≡ true
 is_zero n h = grind (arith, nat_tests)
 
-isnt_zero : (n : ℕ) → n ≢ 0 → (n == 0) ≡ false
+pub isnt_zero : (n : ℕ) → n ≢ 0 → (n == 0) ≡ false
 isnt_zero n h = grind (arith, nat_tests)
 
-abbrev taken_by : Bool → ℕ → Joint → Joint
-taken_by none n j =
-    let popped = with_table j (after_read j.table grxstsp) in
-    if none then popped else entries_taken n (entry_taken popped (value_read j.table grxstsp))
+abbrev pub popped_one : Whole → Whole
+popped_one w = with_joint w (with_table w.joint (after_read w.joint.table grxstsp))
 
-pub taken_all : (j : Joint) (n : ℕ) → n ≡ 0 → entries_taken n j ≡ j
-unfolding entries_taken
-taken_all j n e = ap (λ k. entries_taken k j) e
+abbrev taken_by : Bool → ℕ → Whole → Whole
+taken_by none n w = if none then popped_one w else arrivals_taken n (arrival_taken (popped_one w) (value_read w.joint.table grxstsp))
+
+pub taken_all : (w : Whole) (n : ℕ) → n ≡ 0 → arrivals_taken n w ≡ w
+unfolding arrivals_taken
+taken_all w n e = ap (λ k. arrivals_taken k w) e
 
 pub popped_every : (t : Table) (n : ℕ) → n ≡ 0 → popped_all n t ≡ t
 unfolding popped_all
 popped_every t n e = ap (λ k. popped_all k t) e
 
-pub taken_none : (i : ℕ) (j : Joint) → i < 8 → value_read j.table grxstsp ≡ 0 → entries_taken (8 - i) j ≡ with_table j (after_read j.table grxstsp)
-unfolding entries_taken
-taken_none i j h e =
-    ap (λ k. entries_taken k j) (one_less 8 i h) ∙ ap (λ b. taken_by b (8 - (i + 1)) j) (is_zero (value_read j.table grxstsp) e)
+pub taken_none : (i : ℕ) (w : Whole) → i < 7 → value_read w.joint.table grxstsp ≡ 0 → arrivals_taken (7 - i) w ≡ popped_one w
+unfolding arrivals_taken
+taken_none i w h e =
+    ap (λ k. arrivals_taken k w) (one_less 7 i h) ∙ ap (λ b. taken_by b (7 - (i + 1)) w) (is_zero (value_read w.joint.table grxstsp) e)
 
-pub taken_some : (i : ℕ) (j : Joint) → i < 8 → value_read j.table grxstsp ≢ 0
-    → entries_taken (8 - i) j ≡ entries_taken (8 - (i + 1)) (entry_taken (with_table j (after_read j.table grxstsp)) (value_read j.table grxstsp))
-unfolding entries_taken
-taken_some i j h e =
-    ap (λ k. entries_taken k j) (one_less 8 i h) ∙ ap (λ b. taken_by b (8 - (i + 1)) j) (isnt_zero (value_read j.table grxstsp) e)
+pub taken_some : (i : ℕ) (w : Whole) → i < 7 → value_read w.joint.table grxstsp ≢ 0
+    → arrivals_taken (7 - i) w ≡ arrivals_taken (7 - (i + 1)) (arrival_taken (popped_one w) (value_read w.joint.table grxstsp))
+unfolding arrivals_taken
+taken_some i w h e =
+    ap (λ k. arrivals_taken k w) (one_less 7 i h) ∙ ap (λ b. taken_by b (7 - (i + 1)) w) (isnt_zero (value_read w.joint.table grxstsp) e)
 
 abbrev popped_by : Bool → ℕ → Table → Table
 popped_by none n t = if none then after_read t grxstsp else popped_all n (after_read t grxstsp)
 
-pub popped_none : (i : ℕ) (t : Table) → i < 8 → value_read t grxstsp ≡ 0 → popped_all (8 - i) t ≡ after_read t grxstsp
+pub popped_none : (i : ℕ) (t : Table) → i < 14 → value_read t grxstsp ≡ 0 → popped_all (14 - i) t ≡ after_read t grxstsp
 unfolding popped_all
-popped_none i t h e = ap (λ k. popped_all k t) (one_less 8 i h) ∙ ap (λ b. popped_by b (8 - (i + 1)) t) (is_zero (value_read t grxstsp) e)
+popped_none i t h e = ap (λ k. popped_all k t) (one_less 14 i h) ∙ ap (λ b. popped_by b (14 - (i + 1)) t) (is_zero (value_read t grxstsp) e)
 
-pub popped_some : (i : ℕ) (t : Table) → i < 8 → value_read t grxstsp ≢ 0 → popped_all (8 - i) t ≡ popped_all (8 - (i + 1)) (after_read t grxstsp)
+pub popped_some : (i : ℕ) (t : Table) → i < 14 → value_read t grxstsp ≢ 0 → popped_all (14 - i) t ≡ popped_all (14 - (i + 1)) (after_read t grxstsp)
 unfolding popped_all
-popped_some i t h e = ap (λ k. popped_all k t) (one_less 8 i h) ∙ ap (λ b. popped_by b (8 - (i + 1)) t) (isnt_zero (value_read t grxstsp) e)
+popped_some i t h e = ap (λ k. popped_all k t) (one_less 14 i h) ∙ ap (λ b. popped_by b (14 - (i + 1)) t) (isnt_zero (value_read t grxstsp) e)
 
-pub ruleset steps = (after_words-step, words_read-step, taken_none, taken_some, popped_none, popped_some, taken_all, popped_every)
+pub ruleset steps = (after_words-step, words_read-step, taken_none, popped_none, popped_some, taken_all, popped_every)

@@ -10,7 +10,7 @@ is_opened : sizes_written FS4 (channels_masked FS4 (masks_written (first FS4))) 
 unfolding masks_written channels_masked sizes_written
 is_opened = refl
 
-pub opened_joint : (t : Table) (s : Software) → t ≡ first FS4 → s ≡ unused false
+pub opened_joint : (t : Table) (s : Software) → t ≡ first FS4 → s ≡ unused FS4 false
     → ◌≡◌ {A = Joint} (record { table = sizes_written FS4 (channels_masked FS4 (masks_written t)); software = s }) (at_start FS4)
 opened_joint t s e k =
     ap (λ x. record { table = sizes_written FS4 (channels_masked FS4 (masks_written x)); software = s }) e

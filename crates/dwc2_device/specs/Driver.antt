@@ -3,7 +3,9 @@ use Rattle.std.specs.Prelude.{◌≡◌, ◌≤◌, ℕ, ◌+◌, List, [], ◌�
 use Rattle.dwc2_regs.specs.declared.access.Access.{Access}
 use Rattle.device_table.specs.Bank.{Bank, bank_read, bank_write}
 use Rattle.dwc2_access.specs.Registers.{IsRegister}
+use Rattle.device_rings.specs.Rings.{Rings}
 use Rattle.device_relation.specs.Software.{Software, Joint}
+use Rattle.device_relation.specs.Run.{Whole}
 
 pub record Driver : Type 0 where
   pub bank : Bank
@@ -11,6 +13,10 @@ pub record Driver : Type 0 where
 
 abbrev pub joint : Driver → Joint
 joint d = record { table = d.bank.table; software = d.software }
+
+-- and with the rings
+abbrev pub whole : Driver → Rings → Whole
+whole d r = record { joint = joint d; rings = r }
 
 -- a bank comes from another by accesses to registers, each of which was allowed
 pub data Moves : Bank → Bank → Type 0 where

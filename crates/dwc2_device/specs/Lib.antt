@@ -1,4 +1,9 @@
 pub mod Driver
 pub mod Notes
 pub mod Init
-pub mod Phase
+pub mod Writes
+pub mod Serves
+pub mod Standing
+pub mod Keeps
+pub mod Calls
+pub mod Order

@@ -3,14 +3,17 @@ ghost use Rattle.std.specs.Prelude.{◌≡◌, ℕ, ◌+◌, ◌≤◌, ◌<◌,
 ghost use Rattle.dwc2_regs.specs.declared.access.TheConstants.{FS4};
 ghost use Rattle.dwc2_regs.specs.Register.{diepctl, doepctl};
 ghost use Rattle.device_table.specs.Write.{after_write};
-ghost use Rattle.device_relation.specs.Relation.{IsSound, IsPacket};
-ghost use Rattle.device_relation.specs.Port.{port_of, may_start, started, armed, stalled, addressed, without_endpoints};
-ghost use Rattle.device_relation.specs.Run.{with_table, unstalled, out_armed, run_start, run_arm, run_stall, run_address, run_close};
+ghost use Rattle.device_rings.specs.Rings.{Rings};
+ghost use Rattle.device_relation.specs.Relation.{IsPacket, side_of, was_heard};
+ghost use Rattle.device_relation.specs.PipeRelation.{IsSound};
+ghost use Rattle.device_relation.specs.Port.{Port, may_start, started, armed, stalled, addressed};
+ghost use Rattle.device_relation.specs.Run.{with_table, unstalled, out_armed, run_start, run_arm, run_stall, run_address};
 ghost use Rattle.dwc2_device.specs.Driver.{joint, Has, Spends};
-ghost use Rattle.dwc2_device.specs.Phase.{Keeps, quiet};
+ghost use Rattle.dwc2_device.specs.Keeps.{Keeps};
+ghost use Rattle.access_order.specs.Phase.{serving};
+ghost use Rattle.dwc2_device.specs.Order.{Goes};
 
 use crate::DevPort;
-use crate::port::{NO_INS, NO_OUTS};
 use crate::words::STALL;
 use device_relation::Ready;
 use device_relation::laws::packet_fits;
@@ -22,13 +25,11 @@ impl<R: Regs + Drop> DevPort<R> {
     /// data for the host, with which the status stage is armed (USB 2.0, 8.5.3.3). A control transfer has to run: a SETUP
     /// was noted since the last reset, and nothing is on its way on endpoint 0.
     pub fn start_ep0(&mut self, packet: &Packet, last: bool)
-        requires sound { IsSound FS4 (joint self.old) }
-        requires free { IsTrue (may_start (port_of (joint self.old)).bus.side) }
-        requires heard { (port_of (joint self.old)).heard ≡ true }
+        requires free { IsTrue (may_start (side_of self.old.bank.table self.old.software)) }
+        requires heard { was_heard self.old.software.heard ≡ true }
         requires has { Has 2 self.old.bank }
-        ensures port { port_of (joint self.new) ≡ started (port_of (joint self.old)) packet.now last }
-        ensures sound { IsSound FS4 (joint self.new) }
-        ensures order { Keeps quiet quiet self.old.bank.log self.new.bank.log }
+        ensures keeps { Keeps (λ port. started port packet.now last) (joint self.old) (joint self.new) }
+        ensures order { Goes (serving 0) (serving 0) self.old self.new }
         ensures spends { Spends 2 self.old.bank self.new.bank }
     {
         packet_fits(packet);
@@ -38,7 +39,7 @@ impl<R: Regs + Drop> DevPort<R> {
     pub(crate) fn wait(&mut self, packet: &Packet, last: bool)
         requires has { Has 2 self.old.bank }
         ensures joint { joint self.new ≡ run_start (joint self.old) packet.now last }
-        ensures order { Keeps quiet quiet self.old.bank.log self.new.bank.log }
+        ensures order { Goes (serving 0) (serving 0) self.old self.new }
         ensures spends { Spends 2 self.old.bank self.new.bank }
     {
         self.end_stall();
@@ -51,13 +52,11 @@ impl<R: Regs + Drop> DevPort<R> {
 
     /// Endpoint 0 is armed for a packet from the host. What has to hold before is as for [`DevPort::start_ep0`].
     pub fn arm_ep0(&mut self)
-        requires sound { IsSound FS4 (joint self.old) }
-        requires free { IsTrue (may_start (port_of (joint self.old)).bus.side) }
-        requires heard { (port_of (joint self.old)).heard ≡ true }
+        requires free { IsTrue (may_start (side_of self.old.bank.table self.old.software)) }
+        requires heard { was_heard self.old.software.heard ≡ true }
         requires has { Has 4 self.old.bank }
-        ensures port { port_of (joint self.new) ≡ armed (port_of (joint self.old)) }
-        ensures sound { IsSound FS4 (joint self.new) }
-        ensures order { Keeps quiet quiet self.old.bank.log self.new.bank.log }
+        ensures keeps { Keeps armed (joint self.old) (joint self.new) }
+        ensures order { Goes (serving 0) (serving 0) self.old self.new }
         ensures spends { Spends 4 self.old.bank self.new.bank }
     {
         self.arm();
@@ -66,23 +65,21 @@ impl<R: Regs + Drop> DevPort<R> {
     pub(crate) fn arm(&mut self)
         requires has { Has 4 self.old.bank }
         ensures joint { joint self.new ≡ run_arm (joint self.old) }
-        ensures order { Keeps quiet quiet self.old.bank.log self.new.bank.log }
+        ensures order { Goes (serving 0) (serving 0) self.old self.new }
         ensures spends { Spends 4 self.old.bank self.new.bank }
     {
         self.end_stall();
-        self.arm_out();
+        self.arm_zero();
         self.side = Ready::Armed;
         self.next_address = None;
     }
 
     /// Endpoint 0 answers STALL until the next SETUP (USB 2.0, 8.5.3.4). Nothing may be on its way on it.
     pub fn stall_ep0(&mut self)
-        requires sound { IsSound FS4 (joint self.old) }
-        requires free { IsTrue (may_start (port_of (joint self.old)).bus.side) }
+        requires free { IsTrue (may_start (side_of self.old.bank.table self.old.software)) }
         requires has { Has 2 self.old.bank }
-        ensures port { port_of (joint self.new) ≡ stalled (port_of (joint self.old)) }
-        ensures sound { IsSound FS4 (joint self.new) }
-        ensures order { Keeps quiet quiet self.old.bank.log self.new.bank.log }
+        ensures keeps { Keeps stalled (joint self.old) (joint self.new) }
+        ensures order { Goes (serving 0) (serving 0) self.old self.new }
         ensures spends { Spends 2 self.old.bank self.new.bank }
     {
         self.stall();
@@ -91,7 +88,7 @@ impl<R: Regs + Drop> DevPort<R> {
     pub(crate) fn stall(&mut self)
         requires has { Has 2 self.old.bank }
         ensures joint { joint self.new ≡ run_stall (joint self.old) }
-        ensures order { Keeps quiet quiet self.old.bank.log self.new.bank.log }
+        ensures order { Goes (serving 0) (serving 0) self.old self.new }
         ensures spends { Spends 2 self.old.bank self.new.bank }
     {
         self.write_in_control(0, STALL);
@@ -104,7 +101,7 @@ impl<R: Regs + Drop> DevPort<R> {
     fn end_stall(&mut self)
         requires has { Has 2 self.old.bank }
         ensures joint { joint self.new ≡ with_table (joint self.old) (unstalled self.old.bank.table self.old.software.side) }
-        ensures order { Keeps quiet quiet self.old.bank.log self.new.bank.log }
+        ensures order { Goes (serving 0) (serving 0) self.old self.new }
         ensures spends { Spends 2 self.old.bank self.new.bank }
     {
         match self.side {
@@ -123,36 +120,12 @@ impl<R: Regs + Drop> DevPort<R> {
     /// The device has this address, at most 127, from the handler run on that finds the packet acknowledged which endpoint 0
     /// has for the host (USB 2.0, 9.4.6). A call that gives endpoint 0 something else to do forgets it.
     pub fn set_address(&mut self, addr: u8)
-        requires sound { IsSound FS4 (joint self.old) }
         requires address { addr < 128 }
-        ensures port { port_of (joint self.new) ≡ addressed (port_of (joint self.old)) addr }
-        ensures sound { IsSound FS4 (joint self.new) }
+        ensures keeps { Keeps (λ port. addressed port addr) (joint self.old) (joint self.new) }
+        ensures order { Goes (serving 0) (serving 0) self.old self.new }
         ensures bank { self.new.bank ≡ self.old.bank }
     {
         self.keep_address(addr);
-    }
-
-    /// All endpoints but endpoint 0 are closed.
-    pub fn close_all(&mut self)
-        requires sound { IsSound FS4 (joint self.old) }
-        requires has { Has 6 self.old.bank }
-        ensures port { port_of (joint self.new) ≡ without_endpoints (port_of (joint self.old)) }
-        ensures sound { IsSound FS4 (joint self.new) }
-        ensures order { Keeps quiet quiet self.old.bank.log self.new.bank.log }
-        ensures spends { Spends 6 self.old.bank self.new.bank }
-    {
-        self.close();
-    }
-
-    fn close(&mut self)
-        requires has { Has 6 self.old.bank }
-        ensures joint { joint self.new ≡ run_close FS4 (joint self.old) }
-        ensures order { Keeps quiet quiet self.old.bank.log self.new.bank.log }
-        ensures spends { Spends 6 self.old.bank self.new.bank }
-    {
-        self.close_others();
-        self.outs = NO_OUTS;
-        self.ins = NO_INS;
     }
 
     pub(crate) fn keep_address(&mut self, addr: u8)

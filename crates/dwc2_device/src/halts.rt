@@ -1,77 +1,55 @@
-//! The halts of the endpoints other than 0 (USB 2.0, 9.4.5). Each belongs to the core and answers NAK all the same, so that the
-//! software alone keeps its halt, and no call makes an access.
-ghost use Rattle.std.specs.Prelude.{◌≡◌, ◌≤◌, true, false, filter, length};
+//! Which endpoints other than 0 are open, and which are halted (USB 2.0, 9.4.5). No call makes an access.
+ghost use Rattle.std.specs.Prelude.{◌≡◌, ◌≤◌, true, filter, length};
 ghost use Rattle.dwc2_regs.specs.declared.access.TheConstants.{FS4};
 ghost use Rattle.device_machine.specs.Pipes.{halted_addresses};
-ghost use Rattle.device_relation.specs.Relation.{IsSound};
-ghost use Rattle.device_relation.specs.Port.{port_of, halted, cleared};
-ghost use Rattle.device_relation.specs.Run.{run_halt, outs_with_halt, ins_with_halt, out_numbered, in_numbered, is_halted_at};
+ghost use Rattle.device_rings.specs.Rings.{Rings};
+ghost use Rattle.endpoint_relation.specs.OutRelation.{is_open};
+ghost use Rattle.device_relation.specs.Software.{out_kept, in_kept};
+ghost use Rattle.device_relation.specs.PipeRelation.{IsSound, pipes_of};
 ghost use Rattle.dwc2_device.specs.Driver.{joint};
+ghost use Rattle.dwc2_device.specs.Calls.{IsNumbered, is_open_at, is_in_open, is_halted_at};
 
 use crate::DevPort;
 use arrayvec::ArrayVec;
-use device_relation::{InEndpoint, OutEndpoint};
 use dwc2_access::Regs;
+use endpoint_relation::{InEndpoint, InState, OutEndpoint, OutState};
 
-/// The addresses of the endpoints other than 0, ascending (USB 2.0, 9.6.6).
+/// Bit 7 of an endpoint's address, which says IN (USB 2.0, 9.6.6).
+const IN: u8 = 0x80;
+
+/// The addresses of the endpoints other than 0, ascending.
 const ADDRESSES: [u8; 6] = [1, 2, 3, 129, 130, 131];
 
+fn is_out_open(state: OutState) -> bool
+    ensures { result ≡ is_open state }
+{
+    match state {
+        OutState::Closed => false,
+        OutState::Rest => true,
+        OutState::Armed => true,
+        OutState::Posted => true,
+        OutState::Stale => true,
+    }
+}
+
+fn is_in_open(state: InState) -> bool
+    ensures { result ≡ is_in_open state }
+{
+    match state {
+        InState::Closed => false,
+        InState::Rest => true,
+        InState::Running => true,
+        InState::Posted => true,
+    }
+}
+
 impl<R: Regs + Drop> DevPort<R> {
-    /// The endpoint at an address is halted, where one is open (USB 2.0, 9.4.9).
-    pub fn halt(&mut self, addr: u8)
-        requires sound { IsSound FS4 (joint self.old) }
-        ensures port { port_of (joint self.new) ≡ halted (port_of (joint self.old)) addr }
-        ensures sound { IsSound FS4 (joint self.new) }
-        ensures bank { self.new.bank ≡ self.old.bank }
-    {
-        self.set_halt(addr, true);
-    }
-
-    /// The halt of the endpoint at an address ends, where one is open (USB 2.0, 9.4.1).
-    pub fn clear_halt(&mut self, addr: u8)
-        requires sound { IsSound FS4 (joint self.old) }
-        ensures port { port_of (joint self.new) ≡ cleared (port_of (joint self.old)) addr }
-        ensures sound { IsSound FS4 (joint self.new) }
-        ensures bank { self.new.bank ≡ self.old.bank }
-    {
-        self.set_halt(addr, false);
-    }
-
     /// The addresses of the halted endpoints, ascending.
+    #[tactic(auto, using(crate::proofs::Shut::halted_are))]
     pub fn halted_addresses(&self) -> ArrayVec<u8, 30>
-        requires sound { IsSound FS4 (joint self.now) }
-        ensures { result.items ≡ halted_addresses (port_of (joint self.now)).pipes }
+        ensures { (r : Rings) → IsSound FS4 (joint self.now) r → result.items ≡ halted_addresses (pipes_of (joint self.now) r) }
     {
         self.halted_among(&ADDRESSES)
-    }
-
-    fn set_halt(&mut self, addr: u8, halted: bool)
-        ensures joint { joint self.new ≡ run_halt (joint self.old) halted addr }
-        ensures bank { self.new.bank ≡ self.old.bank }
-    {
-        if addr < 128 {
-            self.set_out_halt(addr, halted);
-        } else {
-            self.set_in_halt(addr - 128, halted);
-        }
-    }
-
-    fn set_out_halt(&mut self, number: u8, halted: bool)
-        ensures { self.new ≡ record self.old { software = record self.old.software { outs = outs_with_halt self.old.software.outs number halted } } }
-    {
-        if number > 0 && number <= 3 {
-            let place = (number - 1) as usize;
-            self.outs[place] = self.outs[place].with_halt(halted);
-        }
-    }
-
-    fn set_in_halt(&mut self, number: u8, halted: bool)
-        ensures { self.new ≡ record self.old { software = record self.old.software { ins = ins_with_halt self.old.software.ins number halted } } }
-    {
-        if number > 0 && number <= 3 {
-            let place = (number - 1) as usize;
-            self.ins[place] = self.ins[place].with_halt(halted);
-        }
     }
 
     /// Those of some addresses that are halted, in their order.
@@ -91,30 +69,76 @@ impl<R: Regs + Drop> DevPort<R> {
     fn is_halted(&self, addr: u8) -> bool
         ensures { result ≡ is_halted_at self.now.software addr }
     {
-        if addr < 128 {
-            self.out_end(addr).is_halted()
+        if addr < IN {
+            self.out_at(addr).halted
         } else {
-            self.in_end(addr - 128).is_halted()
+            self.in_at(addr - IN).halted
         }
     }
 
-    fn out_end(&self, number: u8) -> OutEndpoint
-        ensures { result ≡ out_numbered self.now.software.outs number }
+    /// Whether the endpoint at an address is open; then it is one that the controller has.
+    pub fn is_open_at(&self, addr: u8) -> bool
+        ensures value { result ≡ is_open_at self.now.software addr }
+        ensures numbered { result ≡ true → IsNumbered addr }
     {
-        if number > 0 && number <= 3 {
-            self.outs[(number - 1) as usize]
+        if addr < IN {
+            self.is_out_open_at(addr)
         } else {
-            OutEndpoint::Closed
+            self.is_in_open_at(addr - IN)
         }
     }
 
-    fn in_end(&self, number: u8) -> InEndpoint
-        ensures { result ≡ in_numbered self.now.software.ins number }
+    fn is_out_open_at(&self, number: u8) -> bool
+        ensures value { result ≡ is_open (out_kept self.now.software number).state }
+        ensures from { result ≡ true → 1 ≤ number }
+        ensures to { result ≡ true → number ≤ 3 }
     {
-        if number > 0 && number <= 3 {
-            self.ins[(number - 1) as usize]
-        } else {
-            InEndpoint::Closed
+        if number == 0 {
+            return false;
+        }
+        match self.outs.get((number - 1) as usize) {
+            Some(kept) => is_out_open(kept.state),
+            None => false,
+        }
+    }
+
+    fn is_in_open_at(&self, number: u8) -> bool
+        ensures value { result ≡ is_in_open (in_kept self.now.software number).state }
+        ensures from { result ≡ true → 1 ≤ number }
+        ensures to { result ≡ true → number ≤ 3 }
+    {
+        if number == 0 {
+            return false;
+        }
+        match self.ins.get((number - 1) as usize) {
+            Some(kept) => is_in_open(kept.state),
+            None => false,
+        }
+    }
+
+    /// What is kept of the OUT endpoint of any number; of one that the controller hasn't there is nothing.
+    fn out_at(&self, number: u8) -> OutEndpoint
+        ensures { result ≡ out_kept self.now.software number }
+    {
+        if number == 0 {
+            return OutEndpoint::unused();
+        }
+        match self.outs.get((number - 1) as usize) {
+            Some(kept) => *kept,
+            None => OutEndpoint::unused(),
+        }
+    }
+
+    /// What is kept of the IN endpoint of any number.
+    fn in_at(&self, number: u8) -> InEndpoint
+        ensures { result ≡ in_kept self.now.software number }
+    {
+        if number == 0 {
+            return InEndpoint::unused();
+        }
+        match self.ins.get((number - 1) as usize) {
+            Some(kept) => *kept,
+            None => InEndpoint::unused(),
         }
     }
 }

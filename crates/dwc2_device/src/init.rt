@@ -6,8 +6,10 @@ ghost use Rattle.device_machine.specs.Bus.{unconfigured};
 ghost use Rattle.device_table.specs.State.{first, rx_depth, tx0_depth, tx_depth, fifo_size};
 ghost use Rattle.device_table.specs.Write.{after_write};
 ghost use Rattle.device_relation.specs.Software.{unused};
-ghost use Rattle.device_relation.specs.Relation.{IsSound, abstract};
-ghost use Rattle.device_relation.specs.Laws.{at_start};
+ghost use Rattle.device_relation.specs.Relation.{abstract};
+ghost use Rattle.device_rings.specs.Rings.{Rings};
+ghost use Rattle.device_relation.specs.PipeRelation.{IsSound};
+ghost use Rattle.device_relation.specs.Laws.{at_start, AreEmpty};
 ghost use Rattle.device_relation.specs.Run.{with_table};
 ghost use Rattle.dwc2_device.specs.Driver.{joint, Has, Spends};
 ghost use Rattle.dwc2_device.specs.Init.{masks_written, channel_masked, channels_masked, sizes_written};
@@ -28,11 +30,11 @@ impl<R: Regs + Drop> DevPort<R> {
     pub fn init(&mut self, plan: &FifoPlan)
         requires plan { plan.now ≡ record { rx = rx_depth FS4; tx0 = tx0_depth; tx = tx_depth; ins = FS4.in_eps } }
         requires table { self.old.bank.table ≡ first FS4 }
-        requires software { self.old.software ≡ unused false }
+        requires software { self.old.software ≡ unused FS4 false }
         requires has { Has 18 self.old.bank }
         ensures joint { joint self.new ≡ at_start FS4 }
         ensures device { abstract (joint self.new) ≡ unconfigured false }
-        ensures sound { IsSound FS4 (joint self.new) }
+        ensures sound { (r : Rings) → AreEmpty FS4 r → IsSound FS4 (joint self.new) r }
         ensures spends { Spends 18 self.old.bank self.new.bank }
     {
         self.write_all(plan);
@@ -42,7 +44,7 @@ impl<R: Regs + Drop> DevPort<R> {
     fn write_all(&mut self, plan: &FifoPlan)
         requires plan { plan.now ≡ record { rx = rx_depth FS4; tx0 = tx0_depth; tx = tx_depth; ins = FS4.in_eps } }
         requires table { self.old.bank.table ≡ first FS4 }
-        requires software { self.old.software ≡ unused false }
+        requires software { self.old.software ≡ unused FS4 false }
         requires has { Has 18 self.old.bank }
         ensures joint { joint self.new ≡ at_start FS4 }
         ensures spends { Spends 18 self.old.bank self.new.bank }

@@ -6,28 +6,16 @@ ghost use Rattle.device_table.specs.Bank.{bank_read, bank_write};
 ghost use Rattle.device_table.specs.Read.{read_value, read_table};
 ghost use Rattle.device_table.specs.Write.{write_table, after_write};
 ghost use Rattle.dwc2_regs.specs.Register.{offset_of, diepctl, diepint, doepctl, doepint};
-ghost use Rattle.device_relation.specs.Software.{unused};
+ghost use Rattle.device_relation.specs.Software.{unused, out_kept, in_kept, with_out_kept, with_in_kept};
 ghost use Rattle.device_relation.specs.Run.{with_table};
 ghost use Rattle.dwc2_device.specs.Driver.{joint, Has, Spends};
 
 use device_machine::Stage;
-use device_relation::{Heard, InEndpoint, OutEndpoint, Ready};
+use device_relation::{Heard, Ready};
 use dwc2_access::Regs;
 use dwc2_regs::{Profile, diepctl, diepint, doepctl, doepint};
+use endpoint_relation::{InEndpoint, OutEndpoint};
 use std::marker::Model;
-
-/// All endpoints of a direction, closed.
-pub(crate) const NO_OUTS: [OutEndpoint; 3] = [
-    OutEndpoint::Closed,
-    OutEndpoint::Closed,
-    OutEndpoint::Closed,
-];
-
-pub(crate) const NO_INS: [InEndpoint; 3] = [
-    InEndpoint::Closed,
-    InEndpoint::Closed,
-    InEndpoint::Closed,
-];
 
 /// The driver of a device's controller. A clause sees it as the controller and what the driver keeps.
 #[derive(Drop)]
@@ -51,6 +39,29 @@ impl<R: Regs> Model for DevPort<R> {
     ghost view = { λ p. record { bank = R.bank p.regs; software = record { side = p.side; heard = p.heard; next_address = p.next_address; outs = p.outs; ins = p.ins; reset = p.reset; finished = p.finished; request = p.request } } };
 }
 
+/// What is kept where no endpoint is open.
+pub(crate) fn no_outs() -> [OutEndpoint; 3]
+    ensures { result ≡ (unused FS4 false).outs }
+{
+    let unused = OutEndpoint::unused();
+    [unused, unused, unused]
+}
+
+pub(crate) fn no_ins() -> [InEndpoint; 3]
+    ensures { result ≡ (unused FS4 false).ins }
+{
+    let unused = InEndpoint::unused();
+    [unused, unused, unused]
+}
+
+/// The place of a number among those of its direction.
+fn place(number: u8) -> usize
+    requires { 1 ≤ number }
+    ensures { result + 1 ≡ number }
+{
+    (number - 1) as usize
+}
+
 impl<R: Regs + Drop> DevPort<R> {
     ghost use Rattle.dwc2_device.specs.contracts.port.DevPort.{the_row};
 
@@ -58,15 +69,15 @@ impl<R: Regs + Drop> DevPort<R> {
     #[allow(unused_variables)]
     pub fn new(regs: R, profile: Profile) -> DevPort<R>
         requires { profile ≡ FS4 }
-        ensures { result ≡ record { bank = R.bank regs; software = unused false } }
+        ensures { result ≡ record { bank = R.bank regs; software = unused FS4 false } }
     {
         DevPort {
             regs,
             side: Ready::Off,
             heard: Heard::Nothing,
             next_address: None,
-            outs: NO_OUTS,
-            ins: NO_INS,
+            outs: no_outs(),
+            ins: no_ins(),
             reset: false,
             finished: None,
             request: None,
@@ -159,5 +170,39 @@ impl<R: Regs + Drop> DevPort<R> {
         ensures spends { Spends 1 self.old.bank self.new.bank }
     {
         self.write(doepint(x), word);
+    }
+
+    /// What is kept of the OUT endpoint of a number.
+    pub(crate) fn out_kept(&self, number: u8) -> OutEndpoint
+        requires from { 1 ≤ number }
+        requires to { number ≤ 3 }
+        ensures { result ≡ out_kept self.now.software number }
+    {
+        self.outs[place(number)]
+    }
+
+    /// What is kept of the IN endpoint of a number.
+    pub(crate) fn in_kept(&self, number: u8) -> InEndpoint
+        requires from { 1 ≤ number }
+        requires to { number ≤ 3 }
+        ensures { result ≡ in_kept self.now.software number }
+    {
+        self.ins[place(number)]
+    }
+
+    pub(crate) fn keep_out(&mut self, number: u8, kept: OutEndpoint)
+        requires from { 1 ≤ number }
+        requires to { number ≤ 3 }
+        ensures { self.new ≡ record self.old { software = with_out_kept self.old.software number kept } }
+    {
+        self.outs[place(number)] = kept;
+    }
+
+    pub(crate) fn keep_in(&mut self, number: u8, kept: InEndpoint)
+        requires from { 1 ≤ number }
+        requires to { number ≤ 3 }
+        ensures { self.new ≡ record self.old { software = with_in_kept self.old.software number kept } }
+    {
+        self.ins[place(number)] = kept;
     }
 }

@@ -1,29 +1,38 @@
-//! The receive FIFO: the packet and the SETUPs that came on endpoint 0.
-ghost use Rattle.std.specs.Prelude.{◌≡◌, ℕ, ◌+◌, ◌-◌, ◌*◌, ◌≤◌, [], ◌++◌, length, min};
+//! The receive FIFO: the packets and the SETUPs that came.
+ghost use Rattle.std.specs.Prelude.{◌≡◌, ◌≢◌, ℕ, ◌+◌, ◌-◌, ◌*◌, ◌≤◌, ◌++◌, false, length, min};
+ghost use Rattle.dwc2_regs.specs.declared.TheConstants.{GRXSTSP_STATUS, OUT_DONE};
 ghost use Rattle.dwc2_regs.specs.Field.{field_of};
 ghost use Rattle.dwc2_regs.specs.Word.{bytes_of};
 ghost use Rattle.dwc2_regs.specs.Register.{grxstsp, fifo};
 ghost use Rattle.dwc2_fifo.specs.Words.{word_count, bytes_in};
+ghost use Rattle.dwc2_fifo.specs.Rx.{first_word};
 ghost use Rattle.device_table.specs.Read.{value_read, after_read};
-ghost use Rattle.device_table.specs.Write.{after_write};
-ghost use Rattle.device_relation.specs.Run.{with_table, after_words, words_read, bytes_read, packet_taken, setup_taken, setup_ended, entry_taken, entries_taken, byte_count, most_entries};
-ghost use Rattle.dwc2_device.specs.Driver.{joint, Has, Spends};
-ghost use Rattle.dwc2_device.specs.Phase.{Keeps, quiet, popped, closed};
+ghost use Rattle.device_rings.specs.Rings.{out_ring};
+ghost use Rattle.device_relation.specs.Software.{out_kept};
+ghost use Rattle.device_relation.specs.Run.{with_table, after_words, words_read, bytes_read, packet_taken, setup_taken, setup_ended, end_popped, packet_from, arrival_taken, arrivals_taken};
+ghost use Rattle.dwc2_device.specs.Driver.{joint, whole, Has, Spends};
+ghost use Rattle.dwc2_device.specs.Standing.{IsStanding, Fits, InsStand, EndsAt};
+ghost use Rattle.access_order.specs.Phase.{Keeps, serving, ended, closing};
+ghost use Rattle.dwc2_device.specs.Order.{Goes};
 
 use crate::DevPort;
-use crate::words::{SNAK_EPDIS, all_out_interrupts, xfrc};
+use crate::words::{SNAK_EPDIS, all_out_interrupts};
 use arrayvec::ArrayVec;
 use device_machine::Stage;
 use device_relation::{Heard, Ready};
+use device_rings::DevRings;
 use dwc2_access::Regs;
 use dwc2_regs::{
-    GRXSTSP, GRXSTSP_BYTES, GRXSTSP_STATUS, OUT_DATA, OUT_DONE, SETUP_DATA, SETUP_DONE,
-    fifo_window, get_field,
+    GRXSTSP, GRXSTSP_BYTES, GRXSTSP_NUMBER, GRXSTSP_STATUS, OUT_DATA, SETUP_DATA, fifo_window,
+    get_field,
 };
 use usb_packet::Packet;
 
-/// The most entries that lie there.
-pub const MOST_ENTRIES: u8 = 8;
+/// The most that lies there: three SETUPs, and a packet of each OUT endpoint, endpoint 0 among them.
+const MOST_ARRIVALS: u8 = 7;
+
+/// Each has two entries.
+pub const MOST_ENTRIES: u8 = 2 * MOST_ARRIVALS;
 
 /// The bytes of two words, the lowest first.
 fn eight_bytes(low: u32, high: u32) -> [u8; 8]
@@ -37,20 +46,22 @@ fn eight_bytes(low: u32, high: u32) -> [u8; 8]
 }
 
 impl<R: Regs + Drop> DevPort<R> {
-    /// Takes what lies in the receive FIFO, entry by entry: a packet and three SETUPs at most, of two entries each.
-    #[tactic(auto, using(crate::proofs::Loops::steps))]
-    pub(crate) fn take_entries(&mut self)
-        requires has { Has 160 self.old.bank }
-        ensures joint { joint self.new ≡ entries_taken most_entries (joint self.old) }
-        ensures order { Keeps quiet quiet self.old.bank.log self.new.bank.log }
-        ensures spends { Spends 160 self.old.bank self.new.bank }
+    /// Takes what lies in the receive FIFO, one after another: SETUPs, and the packets of all OUT endpoints.
+    #[tactic(auto, using(crate::proofs::Loops::steps, crate::proofs::Arrivals::ins_stand, crate::proofs::Arrivals::popped_stand))]
+    pub(crate) fn take_arrivals(&mut self, rings: &mut DevRings)
+        requires standing { IsStanding (whole self.old rings.old) }
+        requires has { Has 133 self.old.bank }
+        ensures whole { whole self.new rings.new ≡ arrivals_taken 7 (whole self.old rings.old) }
+        ensures stand { InsStand (whole self.new rings.new) }
+        ensures order { Goes (serving 0) (serving 0) self.old self.new }
+        ensures spends { Spends 133 self.old.bank self.new.bank }
     {
-        for _ in 0..MOST_ENTRIES {
+        for _ in 0..MOST_ARRIVALS {
             let status = self.pop();
             if status == 0 {
                 return;
             }
-            self.take_entry(status);
+            self.take_arrival(rings, status);
         }
     }
 
@@ -58,47 +69,92 @@ impl<R: Regs + Drop> DevPort<R> {
         requires has { Has 1 self.old.bank }
         ensures value { result ≡ value_read self.old.bank.table grxstsp }
         ensures joint { joint self.new ≡ with_table (joint self.old) (after_read self.old.bank.table grxstsp) }
-        ensures order { Keeps quiet (popped result) self.old.bank.log self.new.bank.log }
-        ensures closed { Keeps closed closed self.old.bank.log self.new.bank.log }
+        ensures plain { field_of result GRXSTSP_STATUS ≢ OUT_DONE → Goes (serving 0) (serving 0) self.old self.new }
+        ensures ends { (n : ℕ) → EndsAt n result → Goes (serving 0) (ended n) self.old self.new }
+        ensures closed { Keeps (closing 4) (closing 4) self.old.bank.log self.new.bank.log }
         ensures spends { Spends 1 self.old.bank self.new.bank }
     {
         self.read(GRXSTSP)
     }
 
-    /// What the entry is whose status was popped.
-    #[tactic(auto, using(crate::proofs::Kept::other_kept))]
-    fn take_entry(&mut self, status: u32)
-        requires has { Has 19 self.old.bank }
-        ensures joint { joint self.new ≡ entry_taken (joint self.old) status }
-        ensures order { Keeps (popped status) quiet self.old.bank.log self.new.bank.log }
-        ensures spends { Spends 19 self.old.bank self.new.bank }
+    /// The next word of what was popped.
+    pub(crate) fn read_fifo(&mut self) -> u32
+        requires has { Has 1 self.old.bank }
+        ensures value { result ≡ first_word self.old.bank.table.rx.left }
+        ensures joint { joint self.new ≡ with_table (joint self.old) (after_read self.old.bank.table (fifo 0)) }
+        ensures order { Goes (serving 0) (serving 0) self.old self.new }
+        ensures spends { Spends 1 self.old.bank self.new.bank }
+    {
+        self.read(fifo_window(0))
+    }
+
+    /// What came, by the word that was popped.
+    fn take_arrival(&mut self, rings: &mut DevRings, status: u32)
+        requires fits { Fits (whole self.old rings.old) status }
+        requires has { Has 18 self.old.bank }
+        ensures whole { whole self.new rings.new ≡ arrival_taken (whole self.old rings.old) status }
+        ensures order { Goes (serving 0) (serving 0) self.old self.new }
+        ensures spends { Spends 18 self.old.bank self.new.bank }
     {
         match get_field(status, GRXSTSP_STATUS) {
             SETUP_DATA => self.take_setup(),
-            SETUP_DONE => self.end_setup(),
-            OUT_DATA => self.take_packet(get_field(status, GRXSTSP_BYTES)),
-            OUT_DONE => self.clear_out_interrupts(0, xfrc()),
+            OUT_DATA => {
+                let number = get_field(status, GRXSTSP_NUMBER) as u8;
+                let bytes = get_field(status, GRXSTSP_BYTES).min(64) as u8;
+                self.take_data(rings, number, bytes);
+            }
             _ => {}
         }
     }
 
-    /// The bytes of a SETUP.
+    /// A packet of so many bytes on the OUT endpoint of a number.
+    #[tactic(auto, using(crate::proofs::Arrivals::other_number))]
+    fn take_data(&mut self, rings: &mut DevRings, number: u8, bytes: u8)
+        requires known { number ≤ 3 }
+        requires few { bytes ≤ 64 }
+        requires room { 1 ≤ number → (out_kept self.old.software number).over ≡ false → length (out_ring rings.old number).bytes + bytes ≤ (out_ring rings.old number).capacity }
+        requires ends { EndsAt number (value_read self.old.bank.table grxstsp) }
+        requires has { Has 18 self.old.bank }
+        ensures whole { whole self.new rings.new ≡ packet_from (whole self.old rings.old) number bytes }
+        ensures order { Goes (serving 0) (serving 0) self.old self.new }
+        ensures spends { Spends 18 self.old.bank self.new.bank }
+    {
+        if number == 0 {
+            self.take_packet(bytes as usize);
+            self.end_packet(0);
+        } else {
+            self.take_pipe(rings, number, bytes);
+        }
+    }
+
+    /// The bytes of a SETUP, and its end, at which endpoint 0 is disabled and what was ready is forgotten.
     fn take_setup(&mut self)
+        requires ends { field_of (value_read self.old.bank.table grxstsp) GRXSTSP_STATUS ≢ OUT_DONE }
+        requires has { Has 6 self.old.bank }
+        ensures joint { joint self.new ≡ setup_ended (end_popped (setup_taken (joint self.old))) }
+        ensures order { Goes (serving 0) (serving 0) self.old self.new }
+        ensures spends { Spends 6 self.old.bank self.new.bank }
+    {
+        self.read_setup();
+        self.pop();
+        self.end_setup();
+    }
+
+    fn read_setup(&mut self)
         requires has { Has 2 self.old.bank }
         ensures joint { joint self.new ≡ setup_taken (joint self.old) }
-        ensures order { Keeps quiet quiet self.old.bank.log self.new.bank.log }
+        ensures order { Goes (serving 0) (serving 0) self.old self.new }
         ensures spends { Spends 2 self.old.bank self.new.bank }
     {
-        let low = self.read_word();
-        let high = self.read_word();
+        let low = self.read_fifo();
+        let high = self.read_fifo();
         self.request = Some(eight_bytes(low, high));
     }
 
-    /// At the end of a SETUP endpoint 0 is disabled, and what was ready is forgotten.
     fn end_setup(&mut self)
         requires has { Has 3 self.old.bank }
         ensures joint { joint self.new ≡ setup_ended (joint self.old) }
-        ensures order { Keeps quiet quiet self.old.bank.log self.new.bank.log }
+        ensures order { Goes (serving 0) (serving 0) self.old self.new }
         ensures spends { Spends 3 self.old.bank self.new.bank }
     {
         self.write_in_control(0, SNAK_EPDIS);
@@ -109,14 +165,15 @@ impl<R: Regs + Drop> DevPort<R> {
         self.next_address = None;
     }
 
-    /// A packet of so many bytes.
-    fn take_packet(&mut self, bytes: u32)
+    /// A packet of so many bytes on endpoint 0.
+    fn take_packet(&mut self, bytes: usize)
+        requires few { bytes ≤ 64 }
         requires has { Has 16 self.old.bank }
-        ensures joint { joint self.new ≡ packet_taken (joint self.old) (min bytes 64) }
-        ensures order { Keeps quiet quiet self.old.bank.log self.new.bank.log }
+        ensures joint { joint self.new ≡ packet_taken (joint self.old) bytes }
+        ensures order { Goes (serving 0) (serving 0) self.old self.new }
         ensures spends { Spends 16 self.old.bank self.new.bank }
     {
-        let packet = self.read_packet(bytes.min(64) as usize);
+        let packet = self.read_packet(bytes);
         self.side = Ready::Off;
         self.heard = Heard::Packet;
         self.finished = Some(Stage::Came(packet));
@@ -128,7 +185,7 @@ impl<R: Regs + Drop> DevPort<R> {
         requires has { Has 16 self.old.bank }
         ensures value { result ≡ bytes_read bytes self.old.bank.table }
         ensures joint { joint self.new ≡ with_table (joint self.old) (after_words (word_count bytes) self.old.bank.table) }
-        ensures order { Keeps quiet quiet self.old.bank.log self.new.bank.log }
+        ensures order { Goes (serving 0) (serving 0) self.old self.new }
         ensures spends { Spends 16 self.old.bank self.new.bank }
     {
         let mut items = self.read_words(bytes.div_ceil(4));
@@ -146,25 +203,14 @@ impl<R: Regs + Drop> DevPort<R> {
         requires has { Has 16 self.old.bank }
         ensures value { result.items ≡ bytes_in (words_read words self.old.bank.table.rx.left) }
         ensures joint { joint self.new ≡ with_table (joint self.old) (after_words words self.old.bank.table) }
-        ensures order { Keeps quiet quiet self.old.bank.log self.new.bank.log }
+        ensures order { Goes (serving 0) (serving 0) self.old self.new }
         ensures spends { Spends 16 self.old.bank self.new.bank }
     {
         let mut items = ArrayVec::new();
         for _ in 0..words {
-            let word = self.read_word();
+            let word = self.read_fifo();
             let _ = items.try_extend_from_slice(&word.to_le_bytes());
         }
         items
-    }
-
-    /// A word of the entry that was popped.
-    fn read_word(&mut self) -> u32
-        requires has { Has 1 self.old.bank }
-        ensures value { result ≡ value_read self.old.bank.table (fifo 0) }
-        ensures joint { joint self.new ≡ with_table (joint self.old) (after_read self.old.bank.table (fifo 0)) }
-        ensures order { Keeps quiet quiet self.old.bank.log self.new.bank.log }
-        ensures spends { Spends 1 self.old.bank self.new.bank }
-    {
-        self.read(fifo_window(0))
     }
 }

@@ -6,10 +6,11 @@ ghost use Rattle.device_table.specs.Write.{after_write};
 ghost use Rattle.device_relation.specs.Software.{unused};
 ghost use Rattle.device_relation.specs.Run.{with_table, pipe_closed, pipes_closed, others_closed, interrupts_cleared, all_cleared, popped_all, reset_served, flush_all, reset_bits};
 ghost use Rattle.dwc2_device.specs.Driver.{joint, Wakes, Has, Spends};
-ghost use Rattle.dwc2_device.specs.Phase.{Keeps, quiet, found, closed, shut, over};
+ghost use Rattle.access_order.specs.Phase.{Keeps, serving, found, closing, clearing, over};
+ghost use Rattle.dwc2_device.specs.Order.{loaded_in, Goes};
 
 use crate::DevPort;
-use crate::port::{NO_INS, NO_OUTS};
+use crate::port::{no_ins, no_outs};
 use crate::receive::MOST_ENTRIES;
 use crate::words::{FLUSH_ALL, SNAK_EPDIS, all_in_interrupts, all_out_interrupts, reset_bits};
 use device_relation::{Heard, Ready};
@@ -19,11 +20,11 @@ use dwc2_regs::{DCFG, GINTSTS, GRSTCTL};
 impl<R: Regs + Drop> DevPort<R> {
     /// All endpoints are closed and all FIFOs emptied before the bits of the reset are cleared, which wakes the device.
     pub(crate) fn serve_reset(&mut self)
-        requires has { Has 27 self.old.bank }
-        ensures joint { joint self.new ≡ record { table = reset_served FS4 self.old.bank.table; software = unused true } }
+        requires has { Has 33 self.old.bank }
+        ensures joint { joint self.new ≡ record { table = reset_served FS4 self.old.bank.table; software = unused FS4 true } }
         ensures wakes { Wakes self.new.bank }
-        ensures order { Keeps found over self.old.bank.log self.new.bank.log }
-        ensures spends { Spends 27 self.old.bank self.new.bank }
+        ensures order { Goes (λ _. found) over self.old self.new }
+        ensures spends { Spends 33 self.old.bank self.new.bank }
     {
         self.write_dcfg(0);
         self.close_pipes();
@@ -35,13 +36,13 @@ impl<R: Regs + Drop> DevPort<R> {
     }
 
     fn forget(&mut self)
-        ensures { self.new ≡ record self.old { software = unused true } }
+        ensures { self.new ≡ record self.old { software = unused FS4 true } }
     {
         self.side = Ready::Off;
         self.heard = Heard::Nothing;
         self.next_address = None;
-        self.outs = NO_OUTS;
-        self.ins = NO_INS;
+        self.outs = no_outs();
+        self.ins = no_ins();
         self.reset = true;
         self.finished = None;
         self.request = None;
@@ -50,7 +51,7 @@ impl<R: Regs + Drop> DevPort<R> {
     pub(crate) fn write_dcfg(&mut self, word: u32)
         requires has { Has 1 self.old.bank }
         ensures joint { joint self.new ≡ with_table (joint self.old) (after_write self.old.bank.table dcfg word) }
-        ensures order { Keeps quiet quiet self.old.bank.log self.new.bank.log }
+        ensures order { Goes (serving 0) (serving 0) self.old self.new }
         ensures found { Keeps found found self.old.bank.log self.new.bank.log }
         ensures spends { Spends 1 self.old.bank self.new.bank }
     {
@@ -60,7 +61,7 @@ impl<R: Regs + Drop> DevPort<R> {
     fn flush_all(&mut self)
         requires has { Has 1 self.old.bank }
         ensures joint { joint self.new ≡ with_table (joint self.old) (after_write self.old.bank.table grstctl flush_all) }
-        ensures order { Keeps closed closed self.old.bank.log self.new.bank.log }
+        ensures order { Keeps (closing 4) (closing 4) self.old.bank.log self.new.bank.log }
         ensures spends { Spends 1 self.old.bank self.new.bank }
     {
         self.write(GRSTCTL, FLUSH_ALL);
@@ -71,7 +72,7 @@ impl<R: Regs + Drop> DevPort<R> {
         requires has { Has 1 self.old.bank }
         ensures joint { joint self.new ≡ with_table (joint self.old) (after_write self.old.bank.table gintsts reset_bits) }
         ensures wakes { Wakes self.new.bank }
-        ensures order { Keeps shut over self.old.bank.log self.new.bank.log }
+        ensures order { Keeps (clearing 4) (over (loaded_in (unused FS4 true).ins)) self.old.bank.log self.new.bank.log }
         ensures spends { Spends 1 self.old.bank self.new.bank }
     {
         self.write(GINTSTS, reset_bits());
@@ -82,20 +83,18 @@ impl<R: Regs + Drop> DevPort<R> {
         requires known { x ≤ 3 }
         requires has { Has 2 self.old.bank }
         ensures joint { joint self.new ≡ with_table (joint self.old) (pipe_closed self.old.bank.table x) }
-        ensures first { x ≡ 0 → Keeps found closed self.old.bank.log self.new.bank.log }
-        ensures others { 1 ≤ x → Keeps closed closed self.old.bank.log self.new.bank.log }
-        ensures quiet { 1 ≤ x → Keeps quiet quiet self.old.bank.log self.new.bank.log }
+        ensures order { Keeps (closing x) (closing (x + 1)) self.old.bank.log self.new.bank.log }
         ensures spends { Spends 2 self.old.bank self.new.bank }
     {
         self.write_in_control(x, SNAK_EPDIS);
         self.write_out_control(x, SNAK_EPDIS);
     }
 
-    #[tactic(auto, unfolding(device_relation::specs::Run::pipes_closed))]
+    #[tactic(auto, unfolding(device_relation::specs::Run::pipes_closed), using(access_order::proofs::Leads::found_closing))]
     fn close_pipes(&mut self)
         requires has { Has 8 self.old.bank }
         ensures joint { joint self.new ≡ with_table (joint self.old) (pipes_closed FS4 self.old.bank.table) }
-        ensures order { Keeps found closed self.old.bank.log self.new.bank.log }
+        ensures order { Keeps found (closing 4) self.old.bank.log self.new.bank.log }
         ensures spends { Spends 8 self.old.bank self.new.bank }
     {
         self.close_pipe(0);
@@ -103,11 +102,10 @@ impl<R: Regs + Drop> DevPort<R> {
     }
 
     /// All endpoints but endpoint 0.
-    pub(crate) fn close_others(&mut self)
+    fn close_others(&mut self)
         requires has { Has 6 self.old.bank }
         ensures joint { joint self.new ≡ with_table (joint self.old) (others_closed FS4 self.old.bank.table) }
-        ensures order { Keeps quiet quiet self.old.bank.log self.new.bank.log }
-        ensures closed { Keeps closed closed self.old.bank.log self.new.bank.log }
+        ensures order { Keeps (closing 1) (closing 4) self.old.bank.log self.new.bank.log }
         ensures spends { Spends 6 self.old.bank self.new.bank }
     {
         self.close_pipe(1);
@@ -119,19 +117,18 @@ impl<R: Regs + Drop> DevPort<R> {
         requires known { x ≤ 3 }
         requires has { Has 2 self.old.bank }
         ensures joint { joint self.new ≡ with_table (joint self.old) (interrupts_cleared self.old.bank.table x) }
-        ensures first { x ≡ 0 → Keeps closed shut self.old.bank.log self.new.bank.log }
-        ensures others { 1 ≤ x → Keeps shut shut self.old.bank.log self.new.bank.log }
+        ensures order { Keeps (clearing x) (clearing (x + 1)) self.old.bank.log self.new.bank.log }
         ensures spends { Spends 2 self.old.bank self.new.bank }
     {
         self.clear_in_interrupts(x, all_in_interrupts());
         self.clear_out_interrupts(x, all_out_interrupts());
     }
 
-    #[tactic(auto, unfolding(device_relation::specs::Run::all_cleared))]
+    #[tactic(auto, unfolding(device_relation::specs::Run::all_cleared), using(access_order::proofs::Leads::closing_clearing))]
     fn clear_all(&mut self)
         requires has { Has 8 self.old.bank }
         ensures joint { joint self.new ≡ with_table (joint self.old) (all_cleared FS4 self.old.bank.table) }
-        ensures order { Keeps closed shut self.old.bank.log self.new.bank.log }
+        ensures order { Keeps (closing 4) (clearing 4) self.old.bank.log self.new.bank.log }
         ensures spends { Spends 8 self.old.bank self.new.bank }
     {
         self.clear_interrupts(0);
@@ -143,10 +140,10 @@ impl<R: Regs + Drop> DevPort<R> {
     /// The receive FIFO is popped, and no word read.
     #[tactic(auto, using(crate::proofs::Loops::steps))]
     fn pop_all(&mut self)
-        requires has { Has 8 self.old.bank }
-        ensures joint { joint self.new ≡ with_table (joint self.old) (popped_all 8 self.old.bank.table) }
-        ensures order { Keeps closed closed self.old.bank.log self.new.bank.log }
-        ensures spends { Spends 8 self.old.bank self.new.bank }
+        requires has { Has 14 self.old.bank }
+        ensures joint { joint self.new ≡ with_table (joint self.old) (popped_all 14 self.old.bank.table) }
+        ensures order { Keeps (closing 4) (closing 4) self.old.bank.log self.new.bank.log }
+        ensures spends { Spends 14 self.old.bank self.new.bank }
     {
         for _ in 0..MOST_ENTRIES {
             if self.pop() == 0 {

@@ -1,5 +1,5 @@
 -- The law.
-use Rattle.dwc2_device.proofs.Sound.{notes_keep}
+use Rattle.dwc2_device.proofs.Noted.{notes_keep}
 use Rattle.dwc2_device.proofs.notes.notes_keep.Goals as goal
 
 pub returns : goal.returns

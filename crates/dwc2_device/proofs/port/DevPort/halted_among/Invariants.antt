@@ -1,7 +1,7 @@
 -- Those so far, and those of the rest, are all.
 use Rattle.std.proofs.Common.{◌≡◌, ◌≤◌, ◌++◌, length, drop}
 use Rattle.std.specs.Prelude.{filter}
-use Rattle.device_relation.specs.Run.{is_halted_at}
+use Rattle.dwc2_device.specs.Calls.{is_halted_at}
 use Rattle.dwc2_device.proofs.port.DevPort.halted_among.Given as goal
 
 abbrev pub invariant-loop-addr : goal.invariant-loop-addr

@@ -2,8 +2,9 @@
 use Rattle.std.proofs.Common.{◌≡◌, ◌+◌, ◌-◌, ◌*◌, ◌≤◌, [], ◌++◌, length}
 use Rattle.dwc2_fifo.specs.Words.{bytes_in}
 use Rattle.device_relation.specs.Run.{after_words, words_read}
+use Rattle.access_order.specs.Phase.{serving}
 use Rattle.dwc2_device.specs.Driver.{GoesOn}
-use Rattle.dwc2_device.specs.Phase.{Keeps, quiet}
+use Rattle.dwc2_device.specs.Order.{Goes}
 use Rattle.dwc2_device.proofs.port.DevPort.read_words.Given as goal
 
 abbrev pub invariant-loop : goal.invariant-loop
@@ -15,5 +16,5 @@ invariant-loop g l =
     × (l.initial.self.bank.spare ≤ l.self.bank.spare + l.counter)
     × (l.self.bank.due ≡ [])
     × GoesOn l.initial.self.bank l.self.bank
-    × Keeps quiet quiet l.initial.self.bank.log l.self.bank.log
+    × Goes (serving 0) (serving 0) l.initial.self l.self
     × (l.words ≤ 16)

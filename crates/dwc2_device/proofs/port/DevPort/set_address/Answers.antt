@@ -1,10 +1,7 @@
--- Controller and software agree after the call.
+-- The call keeps what holds of controller, software and rings.
 use Rattle.dwc2_device.specs.Driver.{joint}
-use Rattle.dwc2_device.proofs.Sound.{address_ends}
+use Rattle.dwc2_device.proofs.Sound.{address_keeps}
 use Rattle.dwc2_device.proofs.port.DevPort.set_address.Goals as goal
 
-pub returns-clause-port : goal.returns-clause-port
-returns-clause-port g c = (address_ends (joint c.args.self.now) (joint c.keep_address.new.self) c.args.addr c.requires.sound c.requires.address c.keep_address.ensures.joint).port
-
-pub returns-clause-sound : goal.returns-clause-sound
-returns-clause-sound g c = (address_ends (joint c.args.self.now) (joint c.keep_address.new.self) c.args.addr c.requires.sound c.requires.address c.keep_address.ensures.joint).sound
+pub returns-clause-keeps : goal.returns-clause-keeps
+returns-clause-keeps g c = address_keeps (joint c.args.self.now) (joint c.keep_address.new.self) c.args.addr c.requires.address c.keep_address.ensures.joint

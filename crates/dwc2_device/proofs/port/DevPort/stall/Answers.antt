@@ -1,8 +1,16 @@
 -- STALL of both directions.
-use Rattle.std.proofs.Common.{ap, ◌∙◌}
-use Rattle.dwc2_device.proofs.Kept.{stall_keeps}
+use Rattle.std.proofs.Common.{refl, arith}
+use Rattle.access_order.specs.Phase.{serving}
+use Rattle.access_order.proofs.Leads.{zero_leads, out_leads}
+use Rattle.dwc2_device.specs.Order.{loads}
+use Rattle.dwc2_device.proofs.Ordered.{wrote, then, ends}
 use Rattle.dwc2_device.proofs.port.DevPort.stall.Goals as goal
 
 pub returns-clause-order : goal.returns-clause-order
 returns-clause-order g c =
-    stall_keeps c.args.self.now.bank.log c.write_in_control.new.self.bank.log _ c.write_in_control.ensures.told (ap (λ d. d.bank.log) c.self.view_is ∙ c.write_out_control.ensures.told)
+    ends c.args.self.now c.write_out_control.new.self (serving 0) (serving 0) c.self.view_is refl refl
+    (then c.args.self.now c.write_in_control.new.self c.write_out_control.new.self (serving 0) (serving 0) (serving 0)
+    (wrote c.args.self.now c.write_in_control.new.self (serving 0) (serving 0) _ _ c.write_in_control.ensures.joint c.write_in_control.ensures.told
+    (zero_leads 0x900 0x200000 (loads c.args.self.now) refl (record { epena = refl; cnak = refl })))
+    (wrote c.write_in_control.new.self c.write_out_control.new.self (serving 0) (serving 0) _ _ c.write_out_control.ensures.joint c.write_out_control.ensures.told
+    (out_leads 0 0 0xb00 0x200000 (loads c.write_in_control.new.self) (omega arith) refl refl)))

@@ -1,6 +1,0 @@
--- The law.
-use Rattle.device_endpoints.proofs.CallLaws.{run_serves}
-use Rattle.device_endpoints.proofs.laws.handler_run_serves.Goals as goal
-
-pub returns : goal.returns
-returns c = run_serves

@@ -1,6 +1,0 @@
--- The law.
-use Rattle.dwc2_pipes.proofs.Noted.{notes_keep}
-use Rattle.dwc2_pipes.proofs.notes.notes_keep.Goals as goal
-
-pub returns : goal.returns
-returns c = notes_keep

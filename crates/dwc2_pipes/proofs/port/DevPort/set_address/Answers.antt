@@ -1,7 +1,0 @@
--- The call keeps what holds of controller, software and rings.
-use Rattle.dwc2_pipes.specs.Driver.{joint}
-use Rattle.dwc2_pipes.proofs.Sound.{address_keeps}
-use Rattle.dwc2_pipes.proofs.port.DevPort.set_address.Goals as goal
-
-pub returns-clause-keeps : goal.returns-clause-keeps
-returns-clause-keeps g c = address_keeps (joint c.args.self.now) (joint c.keep_address.new.self) c.args.addr c.requires.address c.keep_address.ensures.joint

@@ -1,7 +1,0 @@
--- The call keeps what holds of controller, software and rings.
-use Rattle.dwc2_pipes.specs.Driver.{joint}
-use Rattle.dwc2_pipes.proofs.Sound.{stall_keeps}
-use Rattle.dwc2_pipes.proofs.port.DevPort.stall_ep0.Goals as goal
-
-pub returns-clause-keeps : goal.returns-clause-keeps
-returns-clause-keeps g c = stall_keeps (joint c.args.self.now) (joint c.stall.new.self) c.requires.free c.stall.ensures.joint
