@@ -1,5 +1,5 @@
 -- What a line makes of a device.
-use Rattle.std.proofs.Common.{◌≡◌, ◌≤◌, List, [], true, refl, ap, sym, ◌∙◌, subst, length, arith}
+use Rattle.std.proofs.Common.{◌≡◌, ◌≤◌, ℕ, Bool, List, [], true, refl, ap, sym, ◌∙◌, subst, length, arith}
 use Rattle.std.specs.List.{AllByRecursion}
 use Rattle.register_text.specs.Access.{IsAccess}
 use Rattle.usb_packet.specs.declared.bus.BusEvent.{BusEvent}
@@ -19,15 +19,17 @@ use Rattle.device_schedule.specs.Turns.{AreWork}
 use Rattle.std.specs.Prelude.{◌&&◌, not}
 use Rattle.access_order.specs.Order.{Order, are_ordered, order_after, begun as begun_order}
 use Rattle.dwc2_device.specs.Driver.{GoesOn, stays}
-use Rattle.dwc2_device.specs.Phase.{Keeps, Kept, quiet, over, Over}
-use Rattle.dwc2_device.proofs.Kept.{quiet_over}
+use Rattle.access_order.specs.Phase.{Keeps, Kept, serving, over}
+use Rattle.access_order.proofs.Phases.{serving_over}
+use Rattle.access_order.proofs.Starts.{fresh}
+use Rattle.dwc2_device.specs.Order.{loads, Goes}
 use Rattle.dwc2_device.proofs.Moved.{moved}
-use Rattle.usbd_core.specs.Device.{Device, core_of}
+use Rattle.usbd_core.specs.Device.{Device, core_of, Agrees}
 use Rattle.device_run.specs.Run.{Run, Steps, StaysInOrder}
 
 -- what a clause sees of a device
 abbrev pub run_of : Device → Run
-run_of d = record { set = d.set; core = core_of d; table = d.port.bank.table; log = d.port.bank.log }
+run_of d = record { set = d.set; core = core_of d; table = d.port.bank.table; ins = d.port.software.ins; log = d.port.bank.log }
 
 -- with another state of its controller
 abbrev pub with_bank : Device → Bank → Device
@@ -48,23 +50,20 @@ worked a b e goes fit =
     }
 
 -- what a run's accesses leave
-over_stays : (log : List Access) → Keeps quiet over [] log → StaysInOrder log
-over_stays log keeps = record { run = λ o h. in_order (begun_order o) log (keeps (begun_order o) (fresh o h)); rests = λ o h. (keeps (begun_order o) (fresh o h)).state } where
-  fresh : (o : Order) → Over o → Kept (begun_order o) [] quiet
-  fresh o h = record {
-    ordered = refl;
-    state = record { runs = record { found = refl; woken = refl; ins = h.ins; loads = λ n. refl; outs = h.outs }; loaded = refl; ended = h.ended };
-  }
-
-  in_order : (o : Order) (l : List Access) → Kept o l over → (are_ordered o l && not (order_after o l).reset) ≡ true
+over_stays : (before after : ℕ → Bool) (log : List Access) → Keeps (serving 0 before) (over after) [] log → StaysInOrder before after log
+over_stays before after log keeps = record {
+  run = λ o h. in_order (begun_order o) log (keeps (begun_order o) (fresh before o h));
+  rests = λ o h. (keeps (begun_order o) (fresh before o h)).state;
+} where
+  in_order : (o : Order) (l : List Access) → Kept o l (over after) → (are_ordered o l && not (order_after o l).reset) ≡ true
   in_order o l k = rw (k.ordered) (rw (k.state.found) refl)
 
 -- a line without accesses
-pub none_stays : (log : List Access) → log ≡ [] → StaysInOrder log
-none_stays log e = over_stays log (λ start k. quiet_over start log (subst (λ l. Kept start l quiet) (sym e) k))
+pub none_stays : (before : ℕ → Bool) (log : List Access) → log ≡ [] → StaysInOrder before before log
+none_stays before log e = over_stays before before log (λ start k. serving_over 0 before start log (subst (λ l. Kept start l (serving 0 before)) (sym e) k))
 
 pub irq_steps : (d e : Device) (b : Bank) → b ≡ begun d.port.bank → d.port.bank.due ≡ [] → e.set ≡ d.set
-    → core_of e ≡ after_irq (core_of (with_bank d b)) → GoesOn b e.port.bank → Keeps quiet over b.log e.port.bank.log → AllByRecursion IsAccess e.port.bank.log
+    → core_of e ≡ after_irq (core_of (with_bank d b)) → GoesOn b e.port.bank → Goes (serving 0) over (record d.port { bank = b }) e.port → AllByRecursion IsAccess e.port.bank.log
     → Steps (run_of d) (run_of e) Irq (TheBus Done)
 irq_steps d e b same due set core goes order fit =
     let w = worked d.port.bank e.port.bank due (subst (λ (x : Bank). GoesOn x e.port.bank) same goes) fit in
@@ -74,11 +73,11 @@ irq_steps d e b same due set core goes order fit =
       core = core ∙ ap (λ (x : Bank). after_irq (core_of (with_bank d x))) same;
       turn = w.work;
       table = w.table;
-      order = over_stays e.port.bank.log (subst (λ (x : Bank). Keeps quiet over x.log e.port.bank.log) same order);
+      order = over_stays (loads d.port) (loads e.port) e.port.bank.log (subst (λ (x : Bank). Goes (serving 0) over (record d.port { bank = x }) e.port) same order);
     }
 
 pub task_steps : (d e : Device) (b : Bank) → b ≡ begun d.port.bank → d.port.bank.due ≡ [] → e.set ≡ d.set
-    → core_of e ≡ after_task d.set (core_of (with_bank d b)) → GoesOn b e.port.bank → Keeps quiet quiet b.log e.port.bank.log → AllByRecursion IsAccess e.port.bank.log
+    → core_of e ≡ after_task d.set (core_of (with_bank d b)) → GoesOn b e.port.bank → Goes (serving 0) (serving 0) (record d.port { bank = b }) e.port → AllByRecursion IsAccess e.port.bank.log
     → Steps (run_of d) (run_of e) Task (TheBus Done)
 task_steps d e b same due set core goes order fit =
     let w = worked d.port.bank e.port.bank due (subst (λ (x : Bank). GoesOn x e.port.bank) same goes) fit in
@@ -88,7 +87,8 @@ task_steps d e b same due set core goes order fit =
       core = core ∙ ap (λ (x : Bank). after_task d.set (core_of (with_bank d x))) same;
       turn = w.work;
       table = w.table;
-      order = over_stays e.port.bank.log (λ start k. quiet_over start e.port.bank.log (subst (λ (x : Bank). Keeps quiet quiet x.log e.port.bank.log) same order start k));
+      order = over_stays (loads d.port) (loads e.port) e.port.bank.log
+          (λ start k. serving_over 0 (loads e.port) start e.port.bank.log (subst (λ (x : Bank). Goes (serving 0) (serving 0) (record d.port { bank = x }) e.port) same order start k));
     }
 
 pub bus_steps : (d : Device) (mid new : Bank) (e : BusEvent) (result : BusAnswer) → EventKeeps FS4 d e → mid ≡ begun d.port.bank → result ≡ table.bus_answer mid.table e
@@ -103,5 +103,15 @@ bus_steps d mid new e result k same answer after =
       core = ap (λ (x : Table). core_of (with_bank d (record d.port.bank { table = x }))) t ∙ k.core;
       turn = (none, ap TheBus r);
       table = t;
-      order = none_stays new.log none;
+      order = none_stays (loads d.port) new.log none;
     }
+
+-- all agrees again: of the controller the table alone counts
+at_table : (d : Device) (b : Bank) → Agrees FS4 (with_bank d (record d.port.bank { table = b.table })) → Agrees FS4 (with_bank d b)
+at_table d b a = record { sound = a.sound; fits = a.fits; rests = a.rests }
+
+pub event_agrees : (d : Device) (mid new : Bank) (e : BusEvent) → EventKeeps FS4 d e → mid ≡ begun d.port.bank → new ≡ record mid { table = table.after_bus mid.table e } → d.port.bank.due ≡ []
+    → Agrees FS4 (with_bank d new) × (new.due ≡ [])
+event_agrees d mid new e k same after still =
+    let t : new.table ≡ table.after_bus d.port.bank.table e = ap (λ (b : Bank). b.table) after ∙ ap (λ (b : Bank). table.after_bus b.table e) same in
+    (at_table d new (subst (λ (x : Table). Agrees FS4 (with_bank d (record d.port.bank { table = x }))) (sym t) k.agrees), ap (λ (b : Bank). b.due) after ∙ ap (λ (b : Bank). b.due) same ∙ still)

@@ -35,7 +35,7 @@ impl Model for DeviceRun {
 
     ghost Value = { Run };
 
-    ghost view = { λ r. record { set = r.stack.set; core = core_of r.stack; table = r.stack.port.bank.table; log = r.stack.port.bank.log } };
+    ghost view = { λ r. record { set = r.stack.set; core = core_of r.stack; table = r.stack.port.bank.table; ins = r.stack.port.software.ins; log = r.stack.port.bank.log } };
 
     ghost invariant = { λ r. Agrees FS4 r.stack × (r.stack.port.bank.due ≡ []) };
 }

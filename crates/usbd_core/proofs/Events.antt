@@ -11,9 +11,9 @@ use Rattle.device_machine.specs.declared.control.Side.{Side}
 use Rattle.device_machine.specs.declared.control.Side.TheVariants.{Off, Wait, Loaded, Last, Armed, Stall, Finished}
 use Rattle.device_machine.specs.Bus.{Bus, bus_after, after_setup, after_out, after_in, disturbed, takes, hears, hears_setup, hears_packet, serves}
 use Rattle.device_machine.specs.Pipes.{Pipes}
-use Rattle.device_relation.specs.Relation.{abstract_pipes}
 use Rattle.device_machine.specs.Core.{Transfer, Idle, Sending, Ending, Addressing}
 use Rattle.dwc2_regs.specs.declared.access.TheConstants.{FS4}
+use Rattle.device_relation.specs.PipeRelation.{pipes_of}
 use Rattle.device_relation.specs.Port.{Port}
 use Rattle.device_relation.specs.Laws as relation
 use Rattle.device_relation.proofs.Events as relation_events
@@ -99,8 +99,9 @@ status_stays Idle a b f g = tt
 status_stays (Sending packets) a b f g = tt
 status_stays Ending a b f g = tt
 
-fits_stays : (set : Set) (p : Port) (bus : Bus) (state : DevState) (t : Transfer) → Stays p.bus bus → Fits FS4 set p state t → Fits FS4 set (record p { bus = bus }) state t
-fits_stays set p bus state t s f = record {
+fits_stays : (set : Set) (p : Port) (bus : Bus) (pipes : Pipes) (state : DevState) (t : Transfer) → Stays p.bus bus → Fits FS4 set p state t
+    → Fits FS4 set (record p { bus = bus; pipes = pipes }) state t
+fits_stays set p bus pipes state t s f = record {
   quiet = record { reset = f.quiet.reset; finished = f.quiet.finished; request = f.quiet.request };
   address = f.address ∙ sym s.address;
   served = f.served;
@@ -113,16 +114,17 @@ rests_stays p bus finished request s r = λ e. (s.side.off (r e).0, (r e).1)
 
 pub bus_keeps : BusKeeps FS4
 bus_keeps d e a h =
-    let k : relation.Keeps FS4 (joint d.port) e = relation_events.bus_keeps (joint d.port) e a.sound h in
+    let k : relation.Keeps FS4 (joint d.port) d.rings e = relation_events.bus_keeps (joint d.port) d.rings e a.sound h in
     let next = bus_after (bus_of d) e in
     let s : Stays (bus_of d) next = stays (bus_of d) e in
     record {
       answer = k.answer;
-      core = ap (λ (b : Bus). record (core_of d) { bus = b; pipes = abstract_pipes (relation.after_event (joint d.port) e) }) k.next
+      core = ap (λ (b : Bus). record (core_of d) { bus = b; pipes = pipes_of (relation.after_event (joint d.port) e) d.rings }) k.next
           ∙ ap (λ (p : Pipes). record (core_of d) { bus = next; pipes = p }) k.pipes;
       agrees = record {
         sound = k.sound;
-        fits = subst (λ (b : Bus). Fits FS4 d.set (record (port_in d) { bus = b }) d.state d.transfer) (sym k.next) (fits_stays d.set (port_in d) next d.state d.transfer s a.fits);
+        fits = subst (λ (b : Bus). Fits FS4 d.set (record (port_in d) { bus = b; pipes = pipes_of (relation.after_event (joint d.port) e) d.rings }) d.state d.transfer) (sym k.next)
+            (fits_stays d.set (port_in d) next (pipes_of (relation.after_event (joint d.port) e) d.rings) d.state d.transfer s a.fits);
         rests = subst (λ (b : Bus). Rests (record (port_in d) { bus = b }) d.finished d.request) (sym k.next) (rests_stays (port_in d) next d.finished d.request s a.rests);
       };
     }

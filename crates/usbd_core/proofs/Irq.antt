@@ -12,9 +12,12 @@ use Rattle.device_machine.specs.Pipes.{Pipes, pipes_after_irq}
 use Rattle.device_machine.specs.Core as core
 use Rattle.device_machine.specs.Core.{Core, Transfer, Idle, Sending, Ending, Addressing, after_irq}
 use Rattle.dwc2_regs.specs.declared.access.TheConstants.{FS4}
-use Rattle.device_relation.specs.Relation.{IsSound, is_idle, abstract}
+use Rattle.device_rings.specs.Rings.{Rings}
+use Rattle.device_relation.specs.Relation.{is_idle, abstract}
+use Rattle.device_relation.specs.PipeRelation.{IsSound, pipes_of}
 use Rattle.device_relation.specs.Port as port
 use Rattle.device_relation.specs.Port.{Port, port_of, after_handler}
+use Rattle.device_relation.proofs.Pipes.{same_pipes}
 use Rattle.device_relation.proofs.Runs.{other_notes}
 use Rattle.dwc2_device.specs.Driver.{Driver, joint}
 use Rattle.usbd_core.specs.Device.{Device, KeepsAddress, is_for_host, GivesStatus, Fits, Rests, Agrees, IsQuiet, address_of, core_of, port_in}
@@ -30,8 +33,8 @@ record Kept : Type 0 where
 abbrev kept : Device → Kept
 kept d = record { state = d.state; finished = d.finished; request = d.request; transfer = d.transfer }
 
-abbrev device : Set → Driver → Kept → Device
-device set driver k = record { set = set; port = driver; state = k.state; finished = k.finished; request = k.request; transfer = k.transfer }
+abbrev device : Set → Driver → Rings → Kept → Device
+device set driver rings k = record { set = set; port = driver; rings = rings; state = k.state; finished = k.finished; request = k.request; transfer = k.transfer }
 
 -- with the notes of a run: a reset alone, or a stage and a SETUP
 abbrev with_finished : Kept → Option Stage → Kept
@@ -59,7 +62,7 @@ abbrev quiet : Driver → Driver
 quiet d = noting d false None None
 
 heard_all : (d : Device) (reset : Bool) (finished : Option Stage) (request : Option (List ℕ)) → IsAlone reset finished request
-    → after_note (after_note (with_driver d (noting d.port reset finished request))) ≡ device d.set (quiet d.port) (with_notes (kept d) reset finished request)
+    → after_note (after_note (with_driver d (noting d.port reset finished request))) ≡ device d.set (quiet d.port) d.rings (with_notes (kept d) reset finished request)
 heard_all d true None None h = refl
 heard_all d true (Some stage) request h = absurd (cc (h.0))
 heard_all d true None (Some bytes) h = absurd (cc (h.1))
@@ -87,6 +90,10 @@ record Settles (set : Set) (k : Kept) (c : Core) (p : Port) : Type 0 where
   core : with_kept p.pipes p.bus k ≡ c
   fits : Fits FS4 set (quiet_port p) k.state k.transfer
   rests : Rests (quiet_port p) k.finished k.request
+
+-- with the other endpoints served
+abbrev served : Pipes → Port → Port
+served ps p = record p { pipes = pipes_after_irq ps }
 
 -- a device without notes
 abbrev plain : Pipes → Bus → Bool → Option ℕ → Port
@@ -131,7 +138,7 @@ status_off Ending = tt
 -- no stage finished
 request_settles : (ps : Pipes) (set : Set) (k : Kept) (bus : Bus) (heard : Bool) (next : Option ℕ) (last : Option (List ℕ))
     → Fits FS4 set (plain ps bus heard next) k.state k.transfer → Rests (plain ps bus heard next) k.finished k.request
-    → Settles set (after k (port.with_pipes_served (port.with_request (plain ps bus heard next) last))) (core.with_pipes_served (core.with_request (with_kept ps bus k) last)) (port.with_pipes_served (port.with_request (plain ps bus heard next) last))
+    → Settles set (after k (served ps (port.with_request (plain ps bus heard next) last))) (core.with_pipes_served (core.with_request (with_kept ps bus k) last)) (served ps (port.with_request (plain ps bus heard next) last))
 request_settles ps set k bus heard next None f r = record {
   alone = tt;
   core = refl;
@@ -163,11 +170,11 @@ at bus side = record bus { side = side }
 
 stage_settles : (ps : Pipes) (set : Set) (k : Kept) (bus : Bus) (stage : Stage) (last : Option (List ℕ)) → with_finished k (Some stage) ≡ record k { finished = Some stage }
     → Fits FS4 set (plain ps (at bus (Finished stage)) true None) k.state k.transfer
-    → Settles set (after k (port.with_pipes_served (port.with_request (port.with_stage (plain ps (at bus (Finished stage)) true None) stage) last)))
+    → Settles set (after k (served ps (port.with_request (port.with_stage (plain ps (at bus (Finished stage)) true None) stage) last)))
     (core.with_pipes_served (core.with_request (core.with_stage (with_kept ps (at bus (Finished stage)) k) (Some stage)) last))
-    (port.with_pipes_served (port.with_request (port.with_stage (plain ps (at bus (Finished stage)) true None) stage) last))
+    (served ps (port.with_request (port.with_stage (plain ps (at bus (Finished stage)) true None) stage) last))
 stage_settles ps set k bus stage None e f =
-    subst (λ (n : Kept). Settles set n (core.with_pipes_served (core.with_request (core.with_stage (with_kept ps (at bus (Finished stage)) k) (Some stage)) None)) (port.with_pipes_served (port.with_request (port.with_stage (plain ps (at bus (Finished stage)) true None) stage) None)))
+    subst (λ (n : Kept). Settles set n (core.with_pipes_served (core.with_request (core.with_stage (with_kept ps (at bus (Finished stage)) k) (Some stage)) None)) (served ps (port.with_request (port.with_stage (plain ps (at bus (Finished stage)) true None) stage) None)))
     (sym e)
     (record {
       alone = tt;
@@ -176,7 +183,7 @@ stage_settles ps set k bus stage None e f =
       rests = λ e. (refl, refl);
     })
 stage_settles ps set k bus stage (Some bytes) e f =
-    subst (λ (n : Kept). Settles set (record n { request = Some bytes }) (core.with_pipes_served (core.with_request (core.with_stage (with_kept ps (at bus (Finished stage)) k) (Some stage)) (Some bytes))) (port.with_pipes_served (port.with_request (port.with_stage (plain ps (at bus (Finished stage)) true None) stage) (Some bytes))))
+    subst (λ (n : Kept). Settles set (record n { request = Some bytes }) (core.with_pipes_served (core.with_request (core.with_stage (with_kept ps (at bus (Finished stage)) k) (Some stage)) (Some bytes))) (served ps (port.with_request (port.with_stage (plain ps (at bus (Finished stage)) true None) stage) (Some bytes))))
     (sym e)
     (record {
       alone = tt;
@@ -191,7 +198,7 @@ on k t = record k { transfer = t }
 
 -- the stage of a transfer finished
 abbrev port_finished : Pipes → Bus → Option ℕ → Stage → Port
-port_finished ps bus next stage = port.with_stages (plain ps (at bus (Finished stage)) true next) (Some stage)
+port_finished ps bus next stage = port.after_plain_run (plain ps (at bus (Finished stage)) true next)
 
 abbrev core_finished : Pipes → Bus → Kept → Stage → Core
 core_finished ps bus k stage = core.after_stages (with_kept ps (at bus (Finished stage)) k) (core.new_address k.transfer (Some stage))
@@ -212,9 +219,13 @@ transfer_settles ps set k bus (Came bytes) (Sending packets) f = stage_settles p
 transfer_settles ps set k bus Sent Ending f = stage_settles ps set (on k Ending) bus Sent (last_of bus.unserved) refl f
 transfer_settles ps set k bus (Came bytes) Ending f = stage_settles ps set (on k Ending) bus (Came bytes) (last_of bus.unserved) refl f
 
+-- a run in which this stage finished, or none
+abbrev by_stage : Port → Option Stage → Port
+by_stage p stage = record (port.with_stages p stage) { pipes = port.pipes_served (port.address_set p.next_address stage) p.pipes }
+
 -- a run that finds no reset, by what endpoint 0 holds
 abbrev port_at : Pipes → Bus → Bool → Option ℕ → Side → Port
-port_at ps bus heard next side = port.with_stages (plain ps (at bus side) heard next) (finished_stage side)
+port_at ps bus heard next side = port.after_plain_run (plain ps (at bus side) heard next)
 
 abbrev core_at : Pipes → Bus → Kept → Side → Core
 core_at ps bus k side = core.after_stages (with_kept ps (at bus side) k) (core.new_address k.transfer (finished_stage side))
@@ -232,10 +243,10 @@ idle_settles ps set k bus heard next side e f r =
     let none : core.new_address k.transfer (finished_stage side) ≡ None = ap (core.new_address k.transfer) e ∙ no_address k.transfer in
     let b : Bus = at bus side in
     let done = request_settles ps set k b heard next (last_of bus.unserved) f r in
-    let found : Settles set (after k (port.with_stages (plain ps b heard next) None)) (core.after_stages (with_kept ps b k) None) (port.with_stages (plain ps b heard next) None) =
-    subst (λ (x : Option Stage). Settles set (after k (port.with_stages (plain ps b heard next) None)) (core.with_pipes_served (core.with_request (core.with_stage (with_kept ps b k) x) (last_of bus.unserved))) (port.with_stages (plain ps b heard next) None)) (sym e) done in
+    let found : Settles set (after k (by_stage (plain ps b heard next) None)) (core.after_stages (with_kept ps b k) None) (by_stage (plain ps b heard next) None) =
+    subst (λ (x : Option Stage). Settles set (after k (by_stage (plain ps b heard next) None)) (core.with_pipes_served (core.with_request (core.with_stage (with_kept ps b k) x) (last_of bus.unserved))) (by_stage (plain ps b heard next) None)) (sym e) done in
     subst (λ (a : Option ℕ). Settles set (after k (port_at ps bus heard next side)) (core.after_stages (with_kept ps b k) a) (port_at ps bus heard next side)) (sym none)
-    (subst (λ (x : Option Stage). Settles set (after k (port.with_stages (plain ps b heard next) x)) (core.after_stages (with_kept ps b k) None) (port.with_stages (plain ps b heard next) x)) (sym e) found)
+    (subst (λ (x : Option Stage). Settles set (after k (by_stage (plain ps b heard next) x)) (core.after_stages (with_kept ps b k) None) (by_stage (plain ps b heard next) x)) (sym e) found)
 
 was_first : (heard : Bool) → (heard || false) ≡ true → heard ≡ true
 was_first true e = refl
@@ -262,7 +273,7 @@ side_settles ps set k bus heard next (Finished stage) h f r =
 
 -- a run, by whether it finds a reset
 abbrev port_by : Bool → Port → Port
-port_by reset p = if reset then port.port_reset else port.with_stages p (finished_stage p.bus.side)
+port_by reset p = if reset then port.port_reset else port.after_plain_run p
 
 abbrev core_by : Bool → Core → Core
 core_by reset c = if reset then core.emptied true else core.after_stages c (core.new_address c.transfer (finished_stage c.bus.side))
@@ -298,23 +309,34 @@ pub record Heard (old new : Device) : Type 0 where
   pub core : core_of new ≡ after_irq (core_of old)
   pub agrees : Agrees FS4 new
 
-heard_is : (old : Device) (d : Driver) (new : Device) → IsSound FS4 (joint d) → Settles old.set (after (kept old) (port_of (joint d))) (after_irq (core_of old)) (port_of (joint d))
-    → new ≡ device old.set (quiet d) (after (kept old) (port_of (joint d))) → Heard old new
-heard_is old d new st s e =
-    let settled : Heard old (device old.set (quiet d) (after (kept old) (port_of (joint d)))) =
-    record { core = s.core; agrees = record { sound = other_notes d.bank.table d.software (abstract (joint d)) false None None st; fits = s.fits; rests = s.rests } } in
+-- with this driver and these rings
+abbrev pub with_both : Device → Driver → Rings → Device
+with_both d port rings = record d { port = port; rings = rings }
+
+quiet_sound : (d : Driver) (rings : Rings) → IsSound FS4 (joint d) rings → IsSound FS4 (joint (quiet d)) rings
+quiet_sound d rings st = record {
+  zero = other_notes d.bank.table d.software (abstract (joint d)) false None None st.zero;
+  pipes = same_pipes d.bank.table d.bank.table d.software (quiet d).software rings (pipes_of (joint d) rings) (record { outs = refl; ins = refl; out_kepts = refl; in_kepts = refl; lie = λ n. refl }) st.pipes;
+}
+
+heard_is : (old : Device) (d : Driver) (rings : Rings) (new : Device) → IsSound FS4 (joint d) rings → Settles old.set (after (kept old) (port_of (joint d) rings)) (after_irq (core_of old)) (port_of (joint d) rings)
+    → new ≡ device old.set (quiet d) rings (after (kept old) (port_of (joint d) rings)) → Heard old new
+heard_is old d rings new st s e =
+    let settled : Heard old (device old.set (quiet d) rings (after (kept old) (port_of (joint d) rings))) =
+    record { core = s.core; agrees = record { sound = quiet_sound d rings st; fits = s.fits; rests = s.rests } } in
     subst (λ (x : Device). Heard old x) (sym e) settled
 
-twice : (old : Device) (d : Driver) → Agrees FS4 old → IsSound FS4 (joint d) → port_of (joint d) ≡ after_handler (port_in old) → Heard old (after_note (after_note (with_driver old d)))
-twice old d a st e =
-    let s = run_settles old.set (kept old) (port_in old) a.sound.side.first a.fits a.rests in
-    let settled : Settles old.set (after (kept old) (port_of (joint d))) (after_irq (core_of old)) (port_of (joint d)) =
+twice : (old : Device) (d : Driver) (rings : Rings) → Agrees FS4 old → IsSound FS4 (joint d) rings → port_of (joint d) rings ≡ after_handler (port_in old)
+    → Heard old (after_note (after_note (with_both old d rings)))
+twice old d rings a st e =
+    let s = run_settles old.set (kept old) (port_in old) a.sound.zero.side.first a.fits a.rests in
+    let settled : Settles old.set (after (kept old) (port_of (joint d) rings)) (after_irq (core_of old)) (port_of (joint d) rings) =
     subst (λ (p : Port). Settles old.set (after (kept old) p) (after_irq (core_of old)) p) (sym e) s in
-    heard_is old d (after_note (after_note (with_driver old d))) st settled
-    (heard_all (with_driver old d) d.software.reset d.software.finished d.software.request settled.alone)
+    heard_is old d rings (after_note (after_note (with_both old d rings))) st settled
+    (heard_all (with_both old d rings) d.software.reset d.software.finished d.software.request settled.alone)
 
 -- a handler run of the driver, and its notes taken
-pub run_heard : (old : Device) (d : Driver) (one two : Device) → Agrees FS4 old → IsSound FS4 (joint d) → port_of (joint d) ≡ after_handler (port_in old)
-    → one ≡ after_note (with_driver old d) → two ≡ after_note one → Heard old two
-run_heard old d one two a st e first second =
-    subst (λ (x : Device). Heard old x) (sym (second ∙ ap after_note first)) (twice old d a st e)
+pub run_heard : (old : Device) (d : Driver) (rings : Rings) (one two : Device) → Agrees FS4 old → IsSound FS4 (joint d) rings → port_of (joint d) rings ≡ after_handler (port_in old)
+    → one ≡ after_note (with_both old d rings) → two ≡ after_note one → Heard old two
+run_heard old d rings one two a st e first second =
+    subst (λ (x : Device). Heard old x) (sym (second ∙ ap after_note first)) (twice old d rings a st e)

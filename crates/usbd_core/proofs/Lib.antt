@@ -1,4 +1,6 @@
+pub mod Begins
 pub mod Events
+pub mod Fits
 pub mod Irq
 pub mod Notes
 pub mod Opens
@@ -6,3 +8,4 @@ pub mod Packets
 pub mod Pipes
 pub mod Requests
 pub mod Whole
+pub mod Ordered

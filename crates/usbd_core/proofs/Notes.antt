@@ -11,11 +11,13 @@ use Rattle.usb_control.specs.declared.state.Choice.TheVariants.{Own, Class}
 use Rattle.usb_control.specs.Table.{choice}
 use Rattle.device_machine.specs.declared.control.Stage.{Stage}
 use Rattle.device_machine.specs.Packets.{data_packets}
-use Rattle.device_machine.specs.Core.{Core, state_of, sending, with_data, staged, changed, begun, work_request, with_request_worked}
+use Rattle.device_machine.specs.Core.{Core, Transfer, state_of, sending, with_data, staged, changed, begun, work_request, with_request_worked}
 use Rattle.dwc2_regs.specs.declared.access.TheConstants.{FS4}
-use Rattle.device_relation.specs.Port.{Port}
-use Rattle.device_relation.specs.Relation.{IsSound}
-use Rattle.dwc2_device.specs.Driver.{joint}
+use Rattle.device_relation.specs.PipeRelation.{IsSound}
+use Rattle.device_relation.specs.Port.{Port, port_of}
+use Rattle.dwc2_device.specs.Driver.{Driver, joint}
+use Rattle.dwc2_device.specs.Notes.{pipes_noted}
+use Rattle.usbd_core.specs.declared.state.DevState.{DevState}
 use Rattle.usbd_core.specs.Device.{Device, core_of, port_in, Fits, Rests, Agrees}
 
 -- the notes of two cores are the same
@@ -71,6 +73,23 @@ quiet_rests p set old new none e =
     subst (λ (f : Option Stage). Rests p f new.request) (sym finished) (subst (λ (r : Option (List ℕ)). Rests p None r) (sym request) (none_rests p))
 
 -- so controller and software agree once the SETUP is worked
-pub worked_agrees : (old new : Device) → old.finished ≡ None → core_of new ≡ with_request_worked old.set (core_of old) → IsSound FS4 (joint new.port)
+pub worked_agrees : (old new : Device) → old.finished ≡ None → core_of new ≡ with_request_worked old.set (core_of old) → IsSound FS4 (joint new.port) new.rings
     → Fits FS4 new.set (port_in new) new.state new.transfer → Agrees FS4 new
 worked_agrees old new none core sound fits = record { sound = sound; fits = fits; rests = quiet_rests (port_in new) old.set (core_of old) (core_of new) none core }
+
+-- and once what was found on the other endpoints is taken up
+fits_noted : (set : Set) (p : Port) (state : DevState) (t : Transfer) → Fits FS4 set p state t → Fits FS4 set (pipes_noted p) state t
+fits_noted set p state t f = record {
+  quiet = record { reset = f.quiet.reset; finished = f.quiet.finished; request = f.quiet.request };
+  address = f.address;
+  served = f.served;
+  keeps = f.keeps;
+  status = f.status;
+}
+
+pub noted_agrees : (d : Device) (port : Driver) → Agrees FS4 d → IsSound FS4 (joint port) d.rings → port_of (joint port) d.rings ≡ pipes_noted (port_in d) → Agrees FS4 (record d { port = port })
+noted_agrees d port a sound e = record {
+  sound = sound;
+  fits = subst (λ (p : Port). Fits FS4 d.set p d.state d.transfer) (sym e) (fits_noted d.set (port_in d) d.state d.transfer a.fits);
+  rests = subst (λ (p : Port). Rests p d.finished d.request) (sym e) a.rests;
+}

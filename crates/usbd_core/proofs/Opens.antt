@@ -1,12 +1,17 @@
 -- The endpoints of a set, opened one after another.
-use Rattle.std.proofs.Common.{◌≡◌, ◌==◌, ℕ, ◌<◌, List, false, length, take, map, get_or, sym, ap, ◌∙◌, arith}
-use Rattle.std.specs.List.{All, list_any}
+use Rattle.std.proofs.Common.{◌≡◌, ◌==◌, ℕ, ◌<◌, ◌≤◌, List, [], ◌∷◌, inl, inr, Bool, true, false, ◌||◌, length, take, map, get_or, refl, sym, ap, ◌∙◌, arith, subst}
+use Rattle.std.specs.Prelude.{◌⊎◌}
+use Rattle.std.specs.List.{All, AllByRecursion, list_any}
+use Rattle.std.specs.Set.{is_member}
+use Rattle.std.proofs.lemmas.Bool.Decides.{nat_tests}
+use Rattle.std.proofs.lemmas.Cmp.{nat_eq_equiv}
+use Rattle.std.proofs.lemmas.Map.Made.{length-le_from_is_member}
 use Rattle.std.proofs.lemmas.List.{length-map, length-take, get_or-take, get_or-map}
 use Rattle.std.proofs.lemmas.List.Folds.{list_any_none}
 use Rattle.std.proofs.lemmas.Map.Keys.{apart_from_distinct}
 use Rattle.usb_descriptor.specs.declared.endpoint.Endpoint.{Endpoint}
 use Rattle.usb_descriptor.specs.Set.{is_addressed}
-use Rattle.usb_descriptor.specs.Served.{AreServed}
+use Rattle.usb_descriptor.specs.Served.{IsServed, AreServed}
 use Rattle.dwc2_regs.specs.declared.access.TheConstants.{FS4}
 use Rattle.usbd_core.specs.Device.{tops}
 
@@ -30,3 +35,30 @@ shut es i d served within =
     none k other h =
         let before : k < i = omega (arith, length-take i es) in
         ap (λ (e : Endpoint). e.addr == (get_or es i d).addr) (get_or-take i es k other before) ∙ apart es i k d other served before within
+
+-- There are six addresses.
+
+abbrev addresses : List ℕ
+addresses = 1 ∷ 2 ∷ 3 ∷ 129 ∷ 130 ∷ 131 ∷ []
+
+is_one : (a : ℕ) → ((1 ≤ a) × (a ≤ 3)) ⊎ ((129 ≤ a) × (a ≤ 131)) → is_member (λ x y. x == y) addresses a ≡ true
+is_one a (inl h) = grind (arith, nat_tests, h.0, h.1)
+is_one a (inr h) = grind (arith, nat_tests, h.0, h.1)
+
+same_of : (a b : ℕ) → (a == b) ≡ true → b ≡ a
+same_of a b e = grind (arith, nat_tests)
+
+each_one : (es : List Endpoint) → AllByRecursion (IsServed (tops FS4)) es → (q : ℕ) → is_member (λ x y. x == y) (map (λ e. e.addr) es) q ≡ true → is_member (λ x y. x == y) addresses q ≡ true
+each_one [] served q e = absurd (cc e)
+each_one (x ∷ es) served q e = by (q == x.addr) refl e (each_one es served.1 q)
+  where
+    by : (b : Bool) → (q == x.addr) ≡ b → (b || is_member (λ x y. x == y) (map (λ e. e.addr) es) q) ≡ true
+        → (is_member (λ x y. x == y) (map (λ e. e.addr) es) q ≡ true → is_member (λ x y. x == y) addresses q ≡ true) → is_member (λ x y. x == y) addresses q ≡ true
+    by true k h rest = subst (λ a. is_member (λ x y. x == y) addresses a ≡ true) (same_of q x.addr k) (is_one x.addr served.0.0)
+    by false k h rest = rest h
+
+-- so a set has at most six endpoints
+pub six : (es : List Endpoint) → AreServed (tops FS4) es → length es ≤ 6
+six es served =
+    subst (λ n. n ≤ 6) (length-map es (λ (e : Endpoint). e.addr))
+    (length-le_from_is_member nat_eq_equiv (map (λ e. e.addr) es) addresses served.distinct (each_one es served.each))

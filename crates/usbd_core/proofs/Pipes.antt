@@ -1,5 +1,5 @@
--- The pipes in a task: they have no note for it, and a session opens and closes them.
-use Rattle.std.proofs.Common.{◌≡◌, inl, inr, ℕ, zero, suc, ◌+◌, ◌-◌, ◌<◌, ◌≤◌, List, [], ◌∷◌, ◌++◌, length, take, get_or, map, Bool, true, false, Some, None, refl, ap, sym, ◌∙◌, arith, subst}
+-- The pipes in a task: a session opens and closes them, and halts end.
+use Rattle.std.proofs.Common.{◌≡◌, inl, inr, ℕ, zero, suc, ◌+◌, ◌-◌, ◌<◌, ◌≤◌, List, [], ◌∷◌, ◌++◌, length, take, get_or, Bool, true, false, refl, ap, sym, ◌∙◌, arith, subst}
 use Rattle.std.specs.Prelude.{◌⊎◌, if◌then◌else◌, nat_lt}
 use Rattle.std.specs.List.{AllByRecursion, list_any}
 use Rattle.std.proofs.lemmas.Bool.Decides.{nat_tests}
@@ -11,33 +11,18 @@ use Rattle.usb_control.specs.declared.state.Effect.{Effect}
 use Rattle.usb_control.specs.declared.state.Choice.TheVariants.{Own}
 use Rattle.usb_control.specs.Table.{choice}
 use Rattle.usb_descriptor.specs.declared.endpoint.Endpoint.{Endpoint}
-use Rattle.usb_descriptor.specs.Set.{Set, endpoints_of, is_addressed, is_core}
+use Rattle.usb_descriptor.specs.Set.{Set, is_addressed}
 use Rattle.dwc2_regs.specs.declared.access.TheConstants.{FS4}
 use Rattle.device_machine.specs.Pipes.{Pipes, out_slot, in_slot, is_out_open, in_hears, with_endpoint_open, with_endpoints_open, pipes_closed, without_halt_if, without_halts, is_open_at}
-use Rattle.device_machine.specs.declared.control.Stage.{Stage}
 use Rattle.device_machine.specs.Laws.{AreOf}
-use Rattle.device_machine.specs.Core.{Core, state_of, staged, changed, begun, advanced, with_request_worked, work_stage, with_pipes_worked, after_task}
+use Rattle.device_machine.specs.Core.{state_of, staged, changed, begun}
 use Rattle.device_machine.proofs.Opens.{closed_of}
-use Rattle.device_relation.specs.Relation.{abstract_pipes}
+use Rattle.device_rings.specs.Rings.{Rings}
+use Rattle.device_relation.specs.PipeRelation.{pipes_of}
 use Rattle.device_relation.specs.Software.{Joint}
 use Rattle.device_relation.specs.Port.{Port, with_endpoint}
-use Rattle.device_relation.proofs.Pipes.{task_idle}
-use Rattle.dwc2_device.specs.Driver.{joint}
 use Rattle.usbd_core.specs.Device.{Device, core_of}
-use Rattle.usbd_core.specs.Task.{AreCores, Leaves, with_endpoints, with_halt_ended_if, with_halts_ended}
-
--- a task that has worked endpoint 0 is over
-pub task_worked : (set : Set) (new : Device) (old mid : Core) → core_of new ≡ with_request_worked set mid → mid ≡ work_stage old old.finished → core_of new ≡ after_task set old
-task_worked set new old mid e f =
-    ap (λ (p : Pipes). record (core_of new) { pipes = p }) (sym (task_idle (joint new.port))) ∙ ap with_pipes_worked (e ∙ ap (with_request_worked set) f)
-
--- the endpoints of a set are the core's
-cores_in : {A : Type 0} (f : A → Endpoint) → ((x : A) → is_core (f x).owner ≡ true) → (xs : List A) → AreCores (map f xs)
-cores_in f each [] = tt
-cores_in f each (x ∷ xs) = (each x, cores_in f each xs)
-
-pub cores_of : (config : List ℕ) → AreCores (endpoints_of config)
-cores_of config = cores_in _ (λ d. refl) _
+use Rattle.usbd_core.specs.Task.{Leaves, with_endpoints, with_halt_ended_if, with_halts_ended}
 
 -- one more of a list is opened
 opened_append : (p : Pipes) (xs : List Endpoint) (e : Endpoint) → with_endpoints_open p (xs ++ e ∷ []) ≡ with_endpoint_open (with_endpoints_open p xs) e
@@ -77,8 +62,8 @@ shut_of es p a h (inr high) none =
     ∙ ap (λ m. in_hears (in_slot p m)) number
     ∙ (h.ins n (omega (arith, high.1))).opens ∙ ap (λ x. list_any (is_addressed x) es) (sym is) ∙ none
 
-pub all_shut : (j : Joint) → AreOf [] (pipes_closed (abstract_pipes j))
-all_shut j = closed_of (abstract_pipes j) refl refl
+pub all_shut : (j : Joint) (r : Rings) → AreOf [] (pipes_closed (pipes_of j r))
+all_shut j r = closed_of (pipes_of j r) refl refl
 
 -- the halts of the endpoints of an interface end
 halts_append : (named : ℕ → Bool) (p : Pipes) (xs : List Endpoint) (e : Endpoint) → without_halts named p (xs ++ e ∷ []) ≡ without_halt_if (named e.addr) (without_halts named p xs) e.addr
@@ -98,7 +83,7 @@ begun_worked old mid new set d e setup state v first next same chosen is =
     next ∙ ap (λ s. changed s (core_of mid) e) same ∙ ap (λ k. changed old.set k e) first
     ∙ ap (λ c. begun old.set (core_of old) c setup.length) (chosen ∙ ap (λ s. choice s state setup) v ∙ ap (λ st. choice old.set st setup) is)
 
-pub leaves_on : (old mid new : Device) → Leaves FS4 2 old mid → Leaves FS4 36 mid new → Leaves FS4 38 old new
+pub leaves_on : (old mid new : Device) → Leaves FS4 2 old mid → Leaves FS4 24 mid new → Leaves FS4 26 old new
 leaves_on old mid new one two =
     (two.0, (omega (arith, one.1.0, two.1.0), two.1.1, λ start m. two.1.2 start (one.1.2 start m)), two.2 ∙ one.2, λ start k. two.3 start (one.3 start k))
 

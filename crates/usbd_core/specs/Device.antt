@@ -1,5 +1,5 @@
--- A device: its descriptors, its driver with the controller, and what its software keeps beside them; the core that they are
--- together, and what holds of them.
+-- A device: its descriptors, its driver with the controller, the rings of its endpoints, and what its software keeps beside
+-- them; the core that they are together, and what holds of them.
 use Rattle.std.specs.Prelude.{◌≡◌, ℕ, Bool, true, false, not, List, Option, Some, None}
 use Rattle.dwc2_regs.specs.declared.access.Profile.{Profile}
 use Rattle.usb_descriptor.specs.declared.limits.EpLimits.{EpLimits}
@@ -11,7 +11,9 @@ use Rattle.device_machine.specs.declared.control.Side.{Side}
 use Rattle.device_machine.specs.declared.control.Side.TheVariants.{Off, Wait, Loaded, Last, Armed, Stall, Finished}
 use Rattle.device_machine.specs.Bus.{Bus}
 use Rattle.device_machine.specs.Core.{Core, Transfer, Idle, Sending, Ending, Addressing}
-use Rattle.device_relation.specs.Relation.{IsSound, abstract, abstract_pipes}
+use Rattle.device_rings.specs.Rings.{Rings}
+use Rattle.device_relation.specs.Relation.{abstract}
+use Rattle.device_relation.specs.PipeRelation.{IsSound, pipes_of}
 use Rattle.device_relation.specs.Port.{Port, port_of}
 use Rattle.dwc2_device.specs.Driver.{Driver, joint}
 use Rattle.usbd_core.specs.declared.state.DevState.{DevState}
@@ -23,6 +25,8 @@ pub record Device : Type 0 where
   pub set : Set
   -- the driver with the controller
   pub port : Driver
+  -- the rings of its endpoints
+  pub rings : Rings
   -- its address, and whether a session stands
   pub state : DevState
   -- the notes that no task has taken
@@ -46,7 +50,7 @@ bus_of d = abstract (joint d.port)
 abbrev pub core_of : Device → Core
 core_of d = record {
   bus = bus_of d;
-  pipes = abstract_pipes (joint d.port);
+  pipes = pipes_of (joint d.port) d.rings;
   session = d.state.configured;
   finished = d.finished;
   request = d.request;
@@ -55,7 +59,7 @@ core_of d = record {
 
 -- the device that its driver has, with the driver's notes
 abbrev pub port_in : Device → Port
-port_in d = port_of (joint d.port)
+port_in d = port_of (joint d.port) d.rings
 
 -- What holds of it between two calls.
 
@@ -123,6 +127,6 @@ Rests p finished request = has_note finished request ≡ true → (p.bus.side �
 
 -- controller and driver agree, and the software with them
 pub record Agrees (profile : Profile) (d : Device) : Type 0 where
-  pub sound : IsSound profile (joint d.port)
+  pub sound : IsSound profile (joint d.port) d.rings
   pub fits : Fits profile d.set (port_in d) d.state d.transfer
   pub rests : Rests (port_in d) d.finished d.request

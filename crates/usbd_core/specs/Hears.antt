@@ -4,9 +4,9 @@ use Rattle.usbd_core.specs.declared.state.DevState.{DevState}
 use Rattle.device_machine.specs.declared.control.Stage.TheVariants.{Sent, Came}
 use Rattle.device_machine.specs.Core.{Transfer, Idle, Sending, Ending, Addressing}
 use Rattle.dwc2_device.specs.Driver.{Driver}
-use Rattle.dwc2_device.specs.Notes.{first_note, without_note}
+use Rattle.dwc2_device.specs.Notes.{first_zero_note, without_zero_note}
 use Rattle.dwc2_device.specs.declared.notes.Note.{Note}
-use Rattle.dwc2_device.specs.declared.notes.Note.TheVariants.{Reset, Ep0In, Ep0Out, Setup}
+use Rattle.dwc2_device.specs.declared.notes.Note.TheVariants.{Reset, Ep0In, Ep0Out, Setup, Out, In}
 use Rattle.usbd_core.specs.Device.{Device}
 
 -- at the start, and after a reset
@@ -33,10 +33,12 @@ noted d (Some Reset) = forgotten d
 noted d (Some Ep0In) = sent d
 noted d (Some (Ep0Out packet)) = record d { finished = Some (Came packet) }
 noted d (Some (Setup bytes)) = record d { request = Some bytes }
+noted d (Some (Out n)) = d
+noted d (Some (In n)) = d
 
 abbrev pub with_driver : Device → Driver → Device
 with_driver d port = record d { port = port }
 
--- the next note is taken
+-- the next note of endpoint 0 or of a reset is taken; those of the other endpoints wait for a task
 abbrev pub after_note : Device → Device
-after_note d = noted (with_driver d (record d.port { software = without_note d.port.software })) (first_note d.port.software)
+after_note d = noted (with_driver d (record d.port { software = without_zero_note d.port.software })) (first_zero_note d.port.software)

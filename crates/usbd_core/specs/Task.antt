@@ -1,32 +1,30 @@
 -- What a task needs of endpoint 0 before it gives it a stage, and what it does to the other endpoints.
 use Rattle.std.specs.Prelude.{◌≡◌, ℕ, Bool, true, IsTrue, List, Option, Some, None}
-use Rattle.std.specs.List.{AllByRecursion}
 use Rattle.usb_descriptor.specs.declared.endpoint.Endpoint.{Endpoint}
-use Rattle.usb_descriptor.specs.Set.{is_core}
 use Rattle.dwc2_regs.specs.declared.access.Profile.{Profile}
 use Rattle.device_machine.specs.Pipes.{with_endpoints_open, session_pipes, without_halt_if, without_halts}
-use Rattle.device_relation.specs.Relation.{IsSound}
+use Rattle.device_relation.specs.PipeRelation.{IsSound}
 use Rattle.device_relation.specs.Port.{Port, may_start}
-use Rattle.device_table.specs.Bank.{Bank}
-use Rattle.dwc2_device.specs.Driver.{joint, Has, Spends}
-use Rattle.dwc2_device.specs.Phase.{Keeps, quiet}
+use Rattle.access_order.specs.Phase.{serving}
+use Rattle.dwc2_device.specs.Driver.{Driver, joint, Has, Spends}
+use Rattle.dwc2_device.specs.Order.{Goes}
 use Rattle.usbd_core.specs.Device.{Device, KeepsAddress, Fits, port_in}
 
 -- controller, driver and software agree, but for the notes
 abbrev pub Holds : Profile → Device → Type 0
-Holds profile d = IsSound profile (joint d.port) × Fits profile d.set (port_in d) d.state d.transfer
+Holds profile d = IsSound profile (joint d.port) d.rings × Fits profile d.set (port_in d) d.state d.transfer
 
 -- what a part of a task needs: they agree, so many accesses may be made, and nothing is due on the bus
 abbrev pub Needs : Profile → ℕ → Device → Type 0
 Needs profile n d = Holds profile d × Has n d.port.bank
 
 -- accesses that were in order go on so
-abbrev pub GoesInOrder : Bank → Bank → Type 0
-GoesInOrder old new = Keeps quiet quiet old.log new.log
+abbrev pub GoesInOrder : Driver → Driver → Type 0
+GoesInOrder = Goes (serving 0) (serving 0)
 
 -- and what it leaves: they agree again, at most so many accesses were made, in order, and the descriptors are the same
 abbrev pub Leaves : Profile → ℕ → Device → Device → Type 0
-Leaves profile n old new = Holds profile new × Spends n old.port.bank new.port.bank × (new.set ≡ old.set) × GoesInOrder old.port.bank new.port.bank
+Leaves profile n old new = Holds profile new × Spends n old.port.bank new.port.bank × (new.set ≡ old.set) × GoesInOrder old.port new.port
 
 -- A SETUP came since the last reset, and nothing is on its way on endpoint 0. What waits there brings no address.
 pub record IsFree (p : Port) : Type 0 where
@@ -38,10 +36,6 @@ pub record IsFree (p : Port) : Type 0 where
 abbrev pub IsFreeFor : Option (List ℕ) → Port → Type 0
 IsFreeFor None p = Unit {0}
 IsFreeFor (Some bytes) p = IsFree p
-
--- endpoints of the core
-abbrev pub AreCores : List Endpoint → Type 0
-AreCores endpoints = AllByRecursion (λ e. is_core e.owner ≡ true) endpoints
 
 -- with these endpoints opened; with these and no others; with the halts ended of those that are named
 abbrev pub with_endpoints : Port → List Endpoint → Port

@@ -10,7 +10,7 @@ pub fn data_is_whole()
     ensures { (bytes : List ℕ) (allowed : ℕ) → concat (data_packets bytes allowed) ≡ take allowed bytes }
 {}
 
-/// Where controller, driver and software agree, the controller's answer to each bus event is that of the core that they are;
+/// Where controller, driver, rings and software agree, the controller's answer to each bus event is that of the core that they are;
 /// what the event leaves is that core's next state, and they agree again.
 pub fn bus_keeps()
     ensures { BusKeeps FS4 }

@@ -4,6 +4,7 @@
 
 mod data;
 pub mod laws;
+mod port;
 mod stack;
 mod state;
 mod task;

@@ -4,8 +4,9 @@ ghost use Rattle.usb_descriptor.specs.Set.{IsAccepted};
 ghost use Rattle.dwc2_regs.specs.declared.access.TheConstants.{FS4};
 ghost use Rattle.device_table.specs.State.{first, opened};
 ghost use Rattle.device_machine.specs.Core.{start, state_of, after_irq};
+ghost use Rattle.access_order.specs.Phase.{serving, over};
 ghost use Rattle.dwc2_device.specs.Driver.{Has, Spends};
-ghost use Rattle.dwc2_device.specs.Phase.{Keeps, quiet, over};
+ghost use Rattle.dwc2_device.specs.Order.{Goes};
 ghost use Rattle.usbd_core.specs.Device.{tops, core_of, Agrees};
 ghost use Rattle.usbd_core.specs.Task.{Holds};
 ghost use Rattle.usbd_core.specs.Hears.{forgotten, sent, after_note};
@@ -14,6 +15,7 @@ use crate::data::DataStage;
 use crate::state::{DevState, UNCONFIGURED};
 use crate::transfer::Transfer;
 use device_machine::Stage;
+use device_rings::DevRings;
 use dwc2_access::Regs;
 use dwc2_device::{DevPort, Note};
 use dwc2_regs::{FS4, Profile};
@@ -31,11 +33,12 @@ const LIMITS: EpLimits = EpLimits {
     report_known: true,
 };
 
-/// The software of a device over its controller. A clause sees it as the driver with the controller, and what the software
-/// keeps beside it.
+/// The software of a device over its controller. A clause sees it as the driver with the controller, the rings of the
+/// endpoints, and what the software keeps beside them.
 #[derive(Drop)]
 pub struct DevStack<R: Regs> {
     pub(crate) port: DevPort<R>,
+    pub(crate) rings: DevRings,
     pub(crate) set: DescSet,
     pub(crate) state: DevState,
     pub(crate) finished: Option<Stage>,
@@ -50,15 +53,16 @@ impl<R: Regs> Model for DevStack<R> {
 
     ghost Value = { Device };
 
-    ghost view = { λ d. record { set = d.set; port = d.port; state = d.state; finished = d.finished; request = d.request; transfer = transfer_of d.transfer d.stage } };
+    ghost view = { λ d. record { set = d.set; port = d.port; rings = d.rings; state = d.state; finished = d.finished; request = d.request; transfer = transfer_of d.transfer d.stage } };
 }
 
 impl<R: Regs + Drop> DevStack<R> {
     ghost use Rattle.usbd_core.specs.contracts.stack.DevStack.{the_row};
 
     /// A device with these descriptors over a controller at its start, which has to be an `FS4`; the set has to be one that
-    /// breaks no rule for it. It is opened, and controller and software agree. It is `AllocError` only where memory runs
+    /// breaks no rule for it. It is opened, its rings are empty, and controller, rings and software agree. It is `AllocError` only where memory runs
     /// out.
+    #[tactic(auto, using(crate::proofs::Begins::are_empty, crate::proofs::Begins::start_pipes))]
     pub fn open(
         alloc: Global,
         regs: R,
@@ -75,7 +79,7 @@ impl<R: Regs + Drop> DevStack<R> {
         ensures table { IfOk result (λ d. d.port.bank.table ≡ opened FS4) }
         ensures still { IfOk result (λ d. d.port.bank.due ≡ []) }
     {
-        let _ = alloc;
+        let rings = DevRings::new(alloc, &set)?;
         endpoints_are_served(&set, LIMITS);
         let plan = fifo_plan(&set, profile);
         let mut port = DevPort::new(regs, profile);
@@ -83,6 +87,7 @@ impl<R: Regs + Drop> DevStack<R> {
         port.init(&plan);
         Ok(DevStack {
             port,
+            rings,
             set,
             state: UNCONFIGURED,
             finished: None,
@@ -107,31 +112,33 @@ impl<R: Regs + Drop> DevStack<R> {
         self.port.controller()
     }
 
-    /// One handler run, of at most 200 accesses: it serves a reset; or notes a stage that finished, sets the address where that
-    /// was the status stage of SET_ADDRESS, and else notes the last SETUP or loads the packet that waits.
+    /// One handler run, of at most 300 accesses: it serves a reset; or notes a stage that finished, sets the address where that
+    /// was the status stage of SET_ADDRESS, and else notes the last SETUP or loads the packet that waits, and serves the other
+    /// endpoints. What it finds on those waits in the driver for a task.
     pub fn irq(&mut self)
         requires agrees { Agrees FS4 self.old }
         requires has { Has 400 self.old.port.bank }
         ensures core { core_of self.new ≡ after_irq (core_of self.old) }
         ensures agrees { Agrees FS4 self.new }
         ensures set { self.new.set ≡ self.old.set }
-        ensures order { Keeps quiet over self.old.port.bank.log self.new.port.bank.log }
-        ensures spends { Spends 200 self.old.port.bank self.new.port.bank }
+        ensures order { Goes (serving 0) over self.old.port self.new.port }
+        ensures spends { Spends 300 self.old.port.bank self.new.port.bank }
     {
-        self.port.run_handler();
+        self.port.run_handler(&mut self.rings);
         self.hear();
         self.hear();
     }
 
-    /// Takes the driver's next note, where there is one. A run leaves two at most.
+    /// Takes the driver's next note of endpoint 0 or of a reset, where there is one. A run leaves two at most.
     fn hear(&mut self)
         ensures { self.new ≡ after_note self.old }
     {
-        match self.port.next_note() {
+        match self.port.next_zero_note() {
             Some(Note::Reset) => self.forget(),
             Some(Note::Ep0In) => self.note_sent(),
             Some(Note::Ep0Out(packet)) => self.finished = Some(Stage::Came(packet)),
             Some(Note::Setup(bytes)) => self.request = Some(bytes),
+            Some(Note::Out(_)) | Some(Note::In(_)) => {}
             None => {}
         }
     }

@@ -6,17 +6,20 @@ ghost use Rattle.usb_descriptor.specs.Served.{AreServed};
 ghost use Rattle.device_machine.specs.Laws.{AreOf};
 ghost use Rattle.device_machine.specs.declared.control.Stage.TheVariants.{Sent};
 ghost use Rattle.device_machine.specs.declared.control.Side.TheVariants.{Wait};
-ghost use Rattle.device_machine.specs.Core.{Ending, Addressing, state_of, after_task, work_stage, with_request_worked, advanced, begun, staged, ending, with_side, with_data, refused, changed, configured};
+ghost use Rattle.device_machine.specs.Core.{Ending, Addressing, state_of, after_task, work_stage, with_request_worked, with_pipes_worked, advanced, begun, staged, ending, with_side, with_data, refused, changed, configured};
 ghost use Rattle.dwc2_regs.specs.declared.access.TheConstants.{FS4};
-ghost use Rattle.device_relation.specs.Relation.{IsSound, IsAddress};
+ghost use Rattle.device_relation.specs.Relation.{IsAddress};
+ghost use Rattle.device_relation.specs.PipeRelation.{IsSound};
 ghost use Rattle.device_relation.specs.Port.{port_of};
 ghost use Rattle.dwc2_device.specs.Driver.{joint, Has, Spends};
 ghost use Rattle.usbd_core.specs.Device.{core_of, port_in, address_of, tops, Fits, Rests, Agrees};
-ghost use Rattle.usbd_core.specs.Task.{IsFree, IsFreeFor, Needs, Leaves, GoesInOrder, AreCores, with_session, with_endpoints, with_halt_ended_if, with_halts_ended};
+ghost use Rattle.usbd_core.specs.Task.{IsFree, IsFreeFor, Needs, Leaves, GoesInOrder, with_session, with_endpoints, with_halt_ended_if, with_halts_ended};
 
 use crate::DevStack;
+use crate::port::{bring, halt, open_one, stall, start};
 use crate::transfer::Transfer;
 use device_machine::Stage;
+use device_rings::DevRings;
 use dwc2_access::Regs;
 use dwc2_device::DevPort;
 use usb_control::{Effect, Found, find};
@@ -24,19 +27,32 @@ use usb_descriptor::{DescSet, Endpoint};
 use usb_packet::{Packet, Setup, setup_of};
 
 impl<R: Regs + Drop> DevStack<R> {
-    /// One task run, of at most 40 accesses: it works the stage that finished, and then the SETUP. The pipes have no note for it,
-    /// since the core never arms or starts one.
+    /// One task run, of at most 28 accesses: it works the stage that finished, and then the SETUP, and takes up what was found on
+    /// the other endpoints. A stage takes two accesses, and a request two for its own stage and 24 at most for what it changes.
     pub fn task(&mut self)
         requires agrees { Agrees FS4 self.old }
         requires has { Has 400 self.old.port.bank }
         ensures core { core_of self.new ≡ after_task self.old.set (core_of self.old) }
         ensures agrees { Agrees FS4 self.new }
         ensures set { self.new.set ≡ self.old.set }
-        ensures order { GoesInOrder self.old.port.bank self.new.port.bank }
-        ensures spends { Spends 40 self.old.port.bank self.new.port.bank }
+        ensures order { GoesInOrder self.old.port self.new.port }
+        ensures spends { Spends 28 self.old.port.bank self.new.port.bank }
     {
         self.work_stage();
         self.work_request();
+        self.work_pipes();
+    }
+
+    /// Takes up what was found on the other endpoints.
+    fn work_pipes(&mut self)
+        requires agrees { Agrees FS4 self.old }
+        ensures core { core_of self.new ≡ with_pipes_worked (core_of self.old) }
+        ensures agrees { Agrees FS4 self.new }
+        ensures set { self.new.set ≡ self.old.set }
+        ensures order { GoesInOrder self.old.port self.new.port }
+        ensures bank { self.new.port.bank ≡ self.old.port.bank }
+    {
+        self.port.take_pipe_notes();
     }
 
     /// Goes on after the stage that finished, where one did.
@@ -63,14 +79,14 @@ impl<R: Regs + Drop> DevStack<R> {
 
     /// Begins the transfer of the SETUP that was noted, where one was.
     fn work_request(&mut self)
-        requires needs { Needs FS4 38 self.old }
+        requires needs { Needs FS4 26 self.old }
         requires finished { self.old.finished ≡ None }
         requires free { IsFreeFor self.old.request (port_in self.old) }
         ensures core { core_of self.new ≡ with_request_worked self.old.set (core_of self.old) }
         ensures set { self.new.set ≡ self.old.set }
         ensures agrees { Agrees FS4 self.new }
-        ensures order { GoesInOrder self.old.port.bank self.new.port.bank }
-        ensures spends { Spends 38 self.old.port.bank self.new.port.bank }
+        ensures order { GoesInOrder self.old.port self.new.port }
+        ensures spends { Spends 26 self.old.port.bank self.new.port.bank }
     {
         match self.request.take() {
             Some(bytes) => self.begin(&setup_of(&bytes)),
@@ -92,7 +108,7 @@ impl<R: Regs + Drop> DevStack<R> {
             Transfer::Data => match self.stage.take_packet() {
                 Some(packet) => {
                     let last = self.stage.is_over();
-                    self.port.start_ep0(&packet, last);
+                    start(&mut self.port, &self.rings, &packet, last);
                 }
                 None => self.transfer = Transfer::Idle,
             },
@@ -102,10 +118,10 @@ impl<R: Regs + Drop> DevStack<R> {
 
     /// Begins the transfer of a request.
     fn begin(&mut self, setup: &Setup)
-        requires needs { Needs FS4 38 self.old }
+        requires needs { Needs FS4 26 self.old }
         requires free { IsFree (port_in self.old) }
         ensures core { core_of self.new ≡ begun self.old.set (core_of self.old) (choice self.old.set (state_of (core_of self.old)) setup.now) setup.now.length }
-        ensures leaves { Leaves FS4 38 self.old self.new }
+        ensures leaves { Leaves FS4 26 self.old self.new }
     {
         let state = self.core_state();
         match find(&self.set, &state, setup) {
@@ -149,8 +165,8 @@ impl<R: Regs + Drop> DevStack<R> {
         ensures core { core_of self.new ≡ with_side (core_of self.old) (Wait [] false) (Addressing address) }
         ensures leaves { Leaves FS4 2 self.old self.new }
     {
-        self.port.start_ep0(&Packet::empty(), false);
-        self.port.set_address(address);
+        start(&mut self.port, &self.rings, &Packet::empty(), false);
+        bring(&mut self.port, &self.rings, address);
         self.transfer = Transfer::Address(address);
     }
 
@@ -161,7 +177,7 @@ impl<R: Regs + Drop> DevStack<R> {
         ensures core { core_of self.new ≡ with_side (core_of self.old) (Wait [] false) Ending }
         ensures leaves { Leaves FS4 2 self.old self.new }
     {
-        self.port.start_ep0(&Packet::empty(), false);
+        start(&mut self.port, &self.rings, &Packet::empty(), false);
         self.transfer = Transfer::Status;
     }
 
@@ -172,98 +188,122 @@ impl<R: Regs + Drop> DevStack<R> {
         ensures core { core_of self.new ≡ refused (core_of self.old) }
         ensures leaves { Leaves FS4 2 self.old self.new }
     {
-        self.port.stall_ep0();
+        stall(&mut self.port, &self.rings);
         self.transfer = Transfer::Idle;
     }
 
     /// What a request changes in this task: all but the address.
+    #[tactic(auto, using(crate::proofs::Opens::six))]
     fn change(&mut self, effect: Effect)
-        requires needs { Needs FS4 36 self.old }
+        requires needs { Needs FS4 24 self.old }
         ensures core { core_of self.new ≡ changed self.old.set (core_of self.old) effect }
-        ensures leaves { Leaves FS4 36 self.old self.new }
+        ensures leaves { Leaves FS4 24 self.old self.new }
     {
         match effect {
             Effect::None | Effect::Address(_) => {}
             Effect::Configure(begins) => self.configure(begins),
-            Effect::Halt(addr) => self.port.halt(addr),
-            Effect::Clear(addr) => self.port.clear_halt(addr),
+            Effect::Halt(addr) => halt(&mut self.port, &self.rings, addr),
+            Effect::Clear(addr) => self.port.clear_halt(addr, &mut self.rings),
             Effect::ClearInterface(number) => {
-                clear_halts(&mut self.port, &self.set, self.set.endpoints(), number)
+                clear_halts(
+                    &mut self.port,
+                    &mut self.rings,
+                    &self.set,
+                    self.set.endpoints(),
+                    number,
+                )
             },
         }
     }
 
     /// Ends the session, and begins a new one where it is told so (USB 2.0, 9.4.7).
+    #[tactic(auto, using(crate::proofs::Opens::six))]
     fn configure(&mut self, begins: bool)
-        requires needs { Needs FS4 36 self.old }
+        requires needs { Needs FS4 24 self.old }
         ensures core { core_of self.new ≡ configured self.old.set (core_of self.old) begins }
-        ensures leaves { Leaves FS4 36 self.old self.new }
+        ensures leaves { Leaves FS4 24 self.old self.new }
     {
-        renew(&mut self.port, self.set.endpoints(), begins);
+        renew(
+            &mut self.port,
+            &mut self.rings,
+            self.set.endpoints(),
+            begins,
+        );
         self.state.configured = begins;
     }
 }
 
 /// Closes all endpoints but endpoint 0, and opens these where a session begins.
-fn renew<R: Regs + Drop>(port: &mut DevPort<R>, endpoints: &[Endpoint], begins: bool)
-    requires sound { IsSound FS4 (joint port.old) }
+fn renew<R: Regs + Drop>(
+    port: &mut DevPort<R>,
+    rings: &mut DevRings,
+    endpoints: &[Endpoint],
+    begins: bool,
+)
+    requires sound { IsSound FS4 (joint port.old) rings.old }
     requires served { AreServed (tops FS4) endpoints.now }
-    requires cores { AreCores endpoints.now }
-    requires has { Has 36 port.old.bank }
-    ensures port { port_of (joint port.new) ≡ with_session (port_of (joint port.old)) (if begins then endpoints.now else []) }
-    ensures sound { IsSound FS4 (joint port.new) }
-    ensures order { GoesInOrder port.old.bank port.new.bank }
-    ensures spends { Spends 36 port.old.bank port.new.bank }
+    requires few { length endpoints.now ≤ 6 }
+    requires has { Has 24 port.old.bank }
+    ensures port { port_of (joint port.new) rings.new ≡ with_session (port_of (joint port.old) rings.old) (if begins then endpoints.now else []) }
+    ensures sound { IsSound FS4 (joint port.new) rings.new }
+    ensures order { GoesInOrder port.old port.new }
+    ensures spends { Spends 24 port.old.bank port.new.bank }
 {
-    port.close_all();
+    port.close_all(rings);
     if begins {
-        open_all(port, endpoints);
+        open_all(port, rings, endpoints);
     }
 }
 
 /// Opens these endpoints, where none is open.
-fn open_all<R: Regs + Drop>(port: &mut DevPort<R>, endpoints: &[Endpoint])
-    requires sound { IsSound FS4 (joint port.old) }
-    requires shut { AreOf [] (port_of (joint port.old)).pipes }
+fn open_all<R: Regs + Drop>(port: &mut DevPort<R>, rings: &DevRings, endpoints: &[Endpoint])
+    requires sound { IsSound FS4 (joint port.old) rings.now }
+    requires shut { AreOf [] (port_of (joint port.old) rings.now).pipes }
     requires served { AreServed (tops FS4) endpoints.now }
-    requires cores { AreCores endpoints.now }
-    requires has { Has 30 port.old.bank }
-    ensures port { port_of (joint port.new) ≡ with_endpoints (port_of (joint port.old)) endpoints.now }
-    ensures sound { IsSound FS4 (joint port.new) }
-    ensures order { GoesInOrder port.old.bank port.new.bank }
-    ensures spends { Spends 30 port.old.bank port.new.bank }
+    requires few { length endpoints.now ≤ 6 }
+    requires has { Has 6 port.old.bank }
+    ensures port { port_of (joint port.new) rings.now ≡ with_endpoints (port_of (joint port.old) rings.now) endpoints.now }
+    ensures sound { IsSound FS4 (joint port.new) rings.now }
+    ensures order { GoesInOrder port.old port.new }
+    ensures spends { Spends 6 port.old.bank port.new.bank }
 {
     for endpoint in endpoints {
-        port.open_ep(endpoint);
+        open_one(port, rings, endpoint);
     }
 }
 
-/// Ends the halts of those of some endpoints that an interface has (USB 2.0, 9.4.10).
+/// Ends the halts of those of some endpoints that an interface has (USB 2.0, 9.4.10): at most three accesses for each.
 fn clear_halts<R: Regs + Drop>(
     port: &mut DevPort<R>,
+    rings: &mut DevRings,
     set: &DescSet,
     endpoints: &[Endpoint],
     number: u8,
 )
-    requires sound { IsSound FS4 (joint port.old) }
-    ensures port { port_of (joint port.new) ≡ with_halts_ended (has_endpoint set.now.config number) (port_of (joint port.old)) endpoints.now }
-    ensures sound { IsSound FS4 (joint port.new) }
-    ensures bank { port.new.bank ≡ port.old.bank }
+    requires sound { IsSound FS4 (joint port.old) rings.old }
+    requires few { length endpoints.now ≤ 6 }
+    requires has { Has 18 port.old.bank }
+    ensures port { port_of (joint port.new) rings.new ≡ with_halts_ended (has_endpoint set.now.config number) (port_of (joint port.old) rings.old) endpoints.now }
+    ensures sound { IsSound FS4 (joint port.new) rings.new }
+    ensures order { GoesInOrder port.old port.new }
+    ensures spends { Spends 18 port.old.bank port.new.bank }
 {
     for endpoint in endpoints {
         let named = set.has_endpoint(number, endpoint.addr);
-        clear_if(port, named, endpoint.addr);
+        clear_if(port, rings, named, endpoint.addr);
     }
 }
 
 /// Ends the halt of the endpoint at an address, where it is named.
-fn clear_if<R: Regs + Drop>(port: &mut DevPort<R>, named: bool, addr: u8)
-    requires sound { IsSound FS4 (joint port.old) }
-    ensures port { port_of (joint port.new) ≡ with_halt_ended_if named (port_of (joint port.old)) addr }
-    ensures sound { IsSound FS4 (joint port.new) }
-    ensures bank { port.new.bank ≡ port.old.bank }
+fn clear_if<R: Regs + Drop>(port: &mut DevPort<R>, rings: &mut DevRings, named: bool, addr: u8)
+    requires sound { IsSound FS4 (joint port.old) rings.old }
+    requires has { Has 3 port.old.bank }
+    ensures port { port_of (joint port.new) rings.new ≡ with_halt_ended_if named (port_of (joint port.old) rings.old) addr }
+    ensures sound { IsSound FS4 (joint port.new) rings.new }
+    ensures order { GoesInOrder port.old port.new }
+    ensures spends { Spends 3 port.old.bank port.new.bank }
 {
     if named {
-        port.clear_halt(addr);
+        port.clear_halt(addr, rings);
     }
 }

@@ -1,8 +1,9 @@
 -- The accesses of the lines so far, and of one more.
-use Rattle.std.proofs.Common.{◌≡◌, List, [], ◌∷◌, ◌++◌, Bool, true, false, map, refl, sym, subst}
+use Rattle.std.proofs.Common.{◌≡◌, ℕ, List, [], ◌∷◌, ◌++◌, Bool, true, false, map, refl, sym, subst}
 use Rattle.std.specs.Prelude.{◌&&◌}
 use Rattle.dwc2_regs.specs.declared.access.Access.{Access}
 use Rattle.access_order.specs.Order.{Order, unused, is_run, after_run, are_runs, after_runs}
+use Rattle.access_order.proofs.Starts.{starts}
 use Rattle.device_schedule.specs.Turns.{Turn}
 use Rattle.device_run.specs.Run.{Rests, StaysInOrder}
 use Rattle.usbrun.specs.Session.{StayInOrder}
@@ -33,13 +34,13 @@ after_runs-more : (o : Order) (turns : List Turn) (turn : Turn) → after_runs o
 after_runs-more o [] turn = refl
 after_runs-more o (t ∷ ts) turn = after_runs-more (after_run o t.accesses) ts turn
 
-pub order_start : StayInOrder []
-order_start = record { in_order = refl; rests = record { found = refl; ended = refl; ins = λ n. refl; outs = λ n. refl } }
+pub order_start : (loads : ℕ → Bool) → StayInOrder loads []
+order_start loads = record { in_order = refl; rests = starts loads }
 
-pub order_more : (turns : List Turn) (turn : Turn) → StayInOrder turns → StaysInOrder turn.accesses → StayInOrder (turns ++ turn ∷ [])
-order_more turns turn h s =
+pub order_more : (loads loads' : ℕ → Bool) (turns : List Turn) (turn : Turn) → StayInOrder loads turns → StaysInOrder loads loads' turn.accesses → StayInOrder loads' (turns ++ turn ∷ [])
+order_more loads loads' turns turn h s =
     let o = after_runs unused (accesses_of turns) in
     record {
       in_order = runs-more unused turns turn h.in_order (s.run o h.rests);
-      rests = subst Rests (sym (after_runs-more unused turns turn)) (s.rests o h.rests);
+      rests = subst (Rests loads') (sym (after_runs-more unused turns turn)) (s.rests o h.rests);
     }

@@ -22,7 +22,7 @@ use Rattle.device_schedule.specs.Turns.{Turn, IsTurn, IsTrace, after_turn}
 use Rattle.device_text.specs.Trace.{trace_text}
 use Rattle.device_schedule.proofs.Answers.{core_state-more}
 use Rattle.device_text.proofs.Traces.{after_turns-more, trace-more}
-use Rattle.device_run.specs.Run.{Run, Steps}
+use Rattle.device_run.specs.Run.{Run, Steps, loads_of}
 use Rattle.device_text.proofs.Closed.{closed_schedule}
 use Rattle.job_reader.specs.Stream.{bytes_left}
 use Rattle.job_reader.specs.Lines.{Finds, IsLineAt, Gone, IsCut, size_of}
@@ -138,7 +138,7 @@ progress_start left took s core table empty short few = record {
   gone = gone_nothing left s.lines;
   turns = [];
   traces = record { lines = refl; answers = refl; run = tt };
-  order = order_start;
+  order = order_start (loads_of s.run);
   trace = takes-nothing took.trace;
   hands = texts-nothing took.out s.texts empty;
   set = refl;
@@ -174,8 +174,8 @@ module _ (told : Bool) (left0 left left' : Option (List ℕ)) (took0 took took' 
       trace-more s0.run.set p.lines p.turns turn p.traces (ap (λ (c : Core). core_answer c line) p.core)
       (subst (λ (x : Table). IsTurn x line s'.run.log answer) p.table t.run.turn)
 
-  order_on : StayInOrder (p.turns ++ turn ∷ [])
-  order_on = order_more p.turns turn p.order t.run.order
+  order_on : StayInOrder (loads_of s'.run) (p.turns ++ turn ∷ [])
+  order_on = order_more (loads_of s.run) (loads_of s'.run) p.turns turn p.order t.run.order
 
   few_on : s'.lines.lines ≤ s'.lines.count
   few_on = omega (arith, p.few, t.gone.lines, t.more)

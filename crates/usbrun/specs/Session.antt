@@ -17,7 +17,7 @@ use Rattle.device_text.specs.Job.{schedule_text, end_line, closed, given, most_b
 use Rattle.device_schedule.specs.Turns.{Turn, after_turns, IsTrace}
 use Rattle.device_text.specs.Trace.{trace_text}
 use Rattle.access_order.specs.Order.{unused, after_runs}
-use Rattle.device_run.specs.Run.{Steps, Rests}
+use Rattle.device_run.specs.Run.{Steps, Rests, loads_of}
 use Rattle.job_reader.specs.Stream.{bytes_left}
 use Rattle.job_reader.specs.Lines.{Finds, IsNext, Gone, IsCut, size_of}
 use Rattle.usbrun.specs.Written.{AreInOrder}
@@ -158,9 +158,9 @@ trace_faults_at None n = n
 trace_faults_at (Some s) n = trace_faults s n
 
 -- the accesses of these lines are in order, and those of the next one will be
-pub record StayInOrder (turns : List Turn) : Type 0 where
+pub record StayInOrder (loads : ℕ → Bool) (turns : List Turn) : Type 0 where
   pub in_order : AreInOrder turns
-  pub rests : Rests (after_runs unused (map (λ turn. turn.accesses) turns))
+  pub rests : Rests loads (after_runs unused (map (λ turn. turn.accesses) turns))
 
 -- from the schedule's start, these lines were read and answered
 pub record Progress (left left' : Option (List ℕ)) (took took' : Took) (old new : Session) : Type 0 where
@@ -169,7 +169,7 @@ pub record Progress (left left' : Option (List ℕ)) (took took' : Took) (old ne
   pub gone : Gone left left' old.lines new.lines (schedule_text lines) (length lines)
   pub turns : List Turn
   pub traces : IsTrace old.run.set lines turns
-  pub order : StayInOrder turns
+  pub order : StayInOrder (loads_of new.run) turns
   pub trace : Takes took.trace took'.trace (trace_text turns)
   pub hands : HandsOut took.out took'.out (texts_of old.texts.regs turns) new.texts
   pub set : new.run.set ≡ old.run.set

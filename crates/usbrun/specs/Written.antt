@@ -46,7 +46,7 @@ ways left left' src_faults src_faults' taken taken' out_faults out_faults' trace
   trace_faults' = trace_faults';
 }
 
--- the accesses of these lines, one line after another from the opened state on, are in the order that silicon needs
+-- the accesses of these lines, one line after another from the opened state on, are in the order that is written after RM0090's programming model
 abbrev pub AreInOrder : List Turn → Type 0
 AreInOrder turns = are_runs unused (map (λ turn. turn.accesses) turns) ≡ true
 

@@ -20,15 +20,19 @@ use Rattle.usbd_core.proofs.task.open_all.Goals as goal
 none : Endpoint
 none = record { addr = 0; kind = Bulk; size = 0; owner = Core }
 
-pub open_ep-requires-clause-shut : goal.open_ep-requires-clause-shut
+pub open_one-requires-clause-shut : goal.open_one-requires-clause-shut
 unfolding none
-open_ep-requires-clause-shut g c =
+open_one-requires-clause-shut g c =
     let i = c.loop-endpoint.endpoint-index in
     let es = c.args.endpoints.now in
     let next = slice_index_or es i none in
-    let now : Pipes = (port_of (joint c.loop-endpoint.port)).pipes in
-    let are = subst (AreOf (take i es)) (sym (ap (λ (p : Port). p.pipes) c.loop-endpoint.invariant.port)) (opened_from (take i es) (port_of (joint c.args.port.now)).pipes c.requires.shut) in
+    let now : Pipes = (port_of (joint c.loop-endpoint.port) c.args.rings.now).pipes in
+    let are = subst (AreOf (take i es)) (sym (ap (λ (p : Port). p.pipes) c.loop-endpoint.invariant.port)) (opened_from (take i es) (port_of (joint c.args.port.now) c.args.rings.now).pipes c.requires.shut) in
     shut_of (take i es) now next.addr are (each_at (IsServed (tops FS4)) es i none c.loop-endpoint-test.true c.requires.served.each).0 (shut es i none c.requires.served c.loop-endpoint-test.true)
+
+pub open_one-requires-clause-served : goal.open_one-requires-clause-served
+unfolding none
+open_one-requires-clause-served g c = each_at (IsServed (tops FS4)) c.args.endpoints.now c.loop-endpoint.endpoint-index none c.loop-endpoint-test.true c.requires.served.each
 
 pub loop-endpoint-preserved : goal.loop-endpoint-preserved
 unfolding none
@@ -36,16 +40,16 @@ loop-endpoint-preserved g c =
     let i = c.loop-endpoint.endpoint-index in
     let es = c.args.endpoints.now in
     record {
-      port = c.open_ep.ensures.port ∙ ap (λ (p : Port). with_endpoint p (slice_index_or es i none)) c.loop-endpoint.invariant.port
-          ∙ one_opened (port_of (joint c.args.port.now)) es i none c.loop-endpoint-test.true;
-      sound = c.open_ep.ensures.sound;
-      spare = omega (arith, c.open_ep.ensures.spends.0, c.loop-endpoint.invariant.spare);
-      still = c.open_ep.ensures.spends.1;
-      goes = λ start m. c.open_ep.ensures.spends.2 start (c.loop-endpoint.invariant.goes start m);
-      order = λ start k. c.open_ep.ensures.order start (c.loop-endpoint.invariant.order start k);
+      port = c.open_one.ensures.port ∙ ap (λ (p : Port). with_endpoint p (slice_index_or es i none)) c.loop-endpoint.invariant.port
+          ∙ one_opened (port_of (joint c.args.port.now) c.args.rings.now) es i none c.loop-endpoint-test.true;
+      sound = c.open_one.ensures.sound;
+      spare = omega (arith, c.open_one.ensures.spends.0, c.loop-endpoint.invariant.spare);
+      still = c.open_one.ensures.spends.1;
+      goes = λ start m. c.open_one.ensures.spends.2 start (c.loop-endpoint.invariant.goes start m);
+      order = λ start k. c.open_one.ensures.order start (c.loop-endpoint.invariant.order start k);
     }
 
 pub returns-clause-port : goal.returns-clause-port
 returns-clause-port g c =
     let es = c.args.endpoints.now in
-    c.loop-endpoint.invariant.port ∙ ap (with_endpoints (port_of (joint c.args.port.now))) (taken_all es c.loop-endpoint.endpoint-index c.loop-endpoint-test.false)
+    c.loop-endpoint.invariant.port ∙ ap (with_endpoints (port_of (joint c.args.port.now) c.args.rings.now)) (taken_all es c.loop-endpoint.endpoint-index c.loop-endpoint-test.false)

@@ -8,13 +8,13 @@ use Rattle.usbd_core.proofs.Pipes.{all_shut}
 use Rattle.usbd_core.proofs.task.renew.Goals as goal
 
 pub open_all-requires-clause-shut : goal.open_all-requires-clause-shut
-open_all-requires-clause-shut g c = subst (AreOf []) (sym (ap (λ (p : Port). p.pipes) c.close_all.ensures.port)) (all_shut (joint c.args.port.now))
+open_all-requires-clause-shut g c = subst (AreOf []) (sym (ap (λ (p : Port). p.pipes) c.close_all.ensures.port)) (all_shut (joint c.args.port.now) c.args.rings.now)
 
 pub returns-then-begins-clause-port : goal.returns-then-begins-clause-port
 returns-then-begins-clause-port g c =
     let es = c.args.endpoints.now in
     c.open_all.ensures.port ∙ ap (λ p. with_endpoints p es) c.close_all.ensures.port
-    ∙ ap (λ b. with_session (port_of (joint c.args.port.now)) (if b then es else [])) (sym c.if-begins.true)
+    ∙ ap (λ b. with_session (port_of (joint c.args.port.now) c.args.rings.now) (if b then es else [])) (sym c.if-begins.true)
 
 pub returns-then-begins-clause-spends : goal.returns-then-begins-clause-spends
 returns-then-begins-clause-spends g c =

@@ -1,4 +1,4 @@
-use Rattle.std.proofs.Common.{refl, arith}
+use Rattle.std.proofs.Common.{refl}
 use Rattle.usb_text.specs.declared.reading.RunLine.{RunLine}
 use Rattle.usb_text.specs.declared.reading.RunLine.TheVariants as run
 use Rattle.usb_text.specs.Line.{IsScheduled}

@@ -33,6 +33,6 @@ returns-in-ClearInterface-clause-core g c =
     let now = c.args.self.now in
     let n = c.in-ClearInterface.number in
     let with : Port → Core = λ p. record { bus = p.bus; pipes = p.pipes; session = s.state.configured; finished = s.finished; request = s.request; transfer = transfer_of s.transfer s.stage } in
-    ap with (c.clear_halts.ensures.port ∙ ap (with_halts_ended (has_endpoint s.set.config n) (port_of (joint s.port))) c.endpoints.ensures.value)
+    ap with (c.clear_halts.ensures.port ∙ ap (with_halts_ended (has_endpoint s.set.config n) (port_of (joint s.port) s.rings)) c.endpoints.ensures.value)
     ∙ ap (λ (d : Device). changed d.set (core_of d) (effect.ClearInterface n)) c.self-in-ClearInterface.view_is
     ∙ ap (changed now.set (core_of now)) (sym c.in-ClearInterface.is)

@@ -1,20 +1,30 @@
--- The endpoints of the set are the core's, and the session has them.
-use Rattle.std.proofs.Common.{[], if◌then◌else◌, ap, sym, ◌∙◌, subst}
+-- The session has the endpoints of the set.
+use Rattle.std.proofs.Common.{[], if◌then◌else◌, refl, ap, sym, ◌∙◌, subst}
+use Rattle.dwc2_regs.specs.declared.access.TheConstants.{FS4}
 use Rattle.device_machine.specs.Core.{Core, configured}
 use Rattle.device_relation.specs.Port.{Port, port_of}
 use Rattle.dwc2_device.specs.Driver.{joint}
-use Rattle.usbd_core.specs.Device.{Device, transfer_of, core_of}
-use Rattle.usbd_core.specs.Task.{AreCores, with_session}
-use Rattle.usbd_core.proofs.Pipes.{cores_of}
+use Rattle.usbd_core.specs.Device.{Device, Fits, transfer_of, core_of}
+use Rattle.usbd_core.specs.Task.{Needs, with_session}
+use Rattle.usbd_core.specs.declared.state.DevState.{DevState}
+use Rattle.usbd_core.proofs.Fits.{leaves_by, pipes_fit}
 use Rattle.usbd_core.proofs.stack.DevStack.configure.Goals as goal
-
-pub renew-requires-clause-cores : goal.renew-requires-clause-cores
-renew-requires-clause-cores g c = subst AreCores (sym c.endpoints.ensures.value) (cores_of c.self.inside.set.config)
 
 pub returns-clause-core : goal.returns-clause-core
 returns-clause-core g c =
     let s = c.self.inside in
     let begins = c.args.begins in
     let with : Port → Core = λ p. record { bus = p.bus; pipes = p.pipes; session = begins; finished = s.finished; request = s.request; transfer = transfer_of s.transfer s.stage } in
-    ap with (c.renew.ensures.port ∙ ap (λ es. with_session (port_of (joint s.port)) (if begins then es else [])) c.endpoints.ensures.value)
+    ap with (c.renew.ensures.port ∙ ap (λ es. with_session (port_of (joint s.port) s.rings) (if begins then es else [])) c.endpoints.ensures.value)
     ∙ ap (λ (d : Device). configured d.set (core_of d) begins) c.self.view_is
+
+pub returns-clause-leaves : goal.returns-clause-leaves
+returns-clause-leaves g c =
+    let s = c.self.inside in
+    let t = transfer_of s.transfer s.stage in
+    let state : DevState = record { addr = s.state.addr; configured = c.args.begins } in
+    let needs = subst (Needs FS4 24) (sym c.self.view_is) c.requires.needs in
+    let new : Device = record { set = s.set; port = c.renew.new.port; rings = c.renew.new.rings; state = state; finished = s.finished; request = s.request; transfer = t } in
+    leaves_by _ c.args.self.now new 24 c.self.view_is c.renew.ensures.sound
+    (subst (λ (p : Port). Fits FS4 s.set p state t) (sym c.renew.ensures.port) (pipes_fit s.set (port_of (joint s.port) s.rings) _ s.state c.args.begins t needs.0.1))
+    c.renew.ensures.spends refl c.renew.ensures.order
