@@ -2,19 +2,12 @@
 ghost use Rattle.std.specs.Prelude.{◌≡◌, []};
 ghost use Rattle.dwc2_access.specs.Registers.{IsRegister};
 
+use crate::bench::{Bench, PLAN};
 use dwc2_access::Regs;
 use dwc2_device::DevPort;
 use dwc2_devmodel::DevCore;
 use dwc2_regs::{DIEPEMPMSK, DIEPTXF0, FS4, GINTMSK, GRXFSIZ};
-use usb_compose::FifoPlan;
 use usb_packet::{BusAnswer, BusEvent};
-
-const PLAN: FifoPlan = FifoPlan {
-    rx: 84,
-    tx0: 16,
-    tx: 32,
-    ins: 3,
-};
 
 /// A driver over a controller that is opened.
 fn opened() -> DevPort<DevCore>
@@ -45,24 +38,23 @@ fn opened_words(rt: HostRuntime) {
     assert_eq!(rt; read(&mut port, DIEPTXF0), 0x0010_0054);
 }
 
-/// The calls whose conditions stand on the device: a stalled device that no reset has woken, and its handler run.
+/// On a device that no reset has woken, calls at addresses where no endpoint is open, and a handler run, change nothing.
 #[test]
 fn asleep(rt: HostRuntime) {
-    let mut port = DevPort::new(DevCore::new(FS4), FS4);
-    port.init(&PLAN);
-    port.stall_ep0();
-    port.set_address(9);
-    port.close_all();
-    port.halt(1);
-    port.clear_halt(0x81);
-    assert_eq!(rt; port.halted_addresses().len(), 0);
-    port.regs().begin();
-    port.run_handler();
-    assert!(rt; matches!(port.next_note(), None));
+    let mut bench = Bench::new(&rt, rt.alloc(), &[]);
+    bench.bring(9);
+    for addr in [0, 1, 0x81, 0xff] {
+        bench.halt(addr);
+        bench.clear(addr);
+    }
+    bench.close();
+    assert!(rt; bench.none_halted());
+    bench.irq();
+    assert!(rt; matches!(bench.note(), None));
     let token = BusEvent::In {
         addr: 0,
         ep: 0,
         ok: true,
     };
-    assert!(rt; matches!(port.regs().bus(&token), BusAnswer::NoAnswer));
+    assert!(rt; matches!(bench.bus(&token), BusAnswer::NoAnswer));
 }

@@ -3,7 +3,11 @@
 #![tactic(auto)]
 
 #[cfg(test)]
+mod bench;
+#[cfg(test)]
 mod driver;
+#[cfg(test)]
+mod endpoints;
 #[cfg(test)]
 mod host;
 #[cfg(test)]
