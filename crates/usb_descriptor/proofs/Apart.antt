@@ -12,7 +12,7 @@ same Hid = refl
 same Msc = refl
 same Midi = refl
 
-apart : (a b : Owner) → same_owner a b ≡ true → a ≡ b
+pub apart : (a b : Owner) → same_owner a b ≡ true → a ≡ b
 apart Core Core e = refl
 apart Core Cdc e = elim (true≢false (sym e)) [ ]
 apart Core Hid e = elim (true≢false (sym e)) [ ]

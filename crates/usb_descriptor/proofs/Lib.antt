@@ -3,3 +3,5 @@ mod Faults
 pub mod Owners
 mod Thirty
 mod Served
+mod Grouped
+mod Led

@@ -17,7 +17,9 @@ use Rattle.usb_descriptor.specs.declared.rule.Rule.TheVariants as rule
 use Rattle.descriptor_row.specs.Row.{byte_at, begins_at, row_from, row_of}
 use Rattle.descriptor_row.specs.Kinds.{is_endpoint, address, transfer, bulk, setting_at, left_after, left_of}
 use Rattle.usb_descriptor.specs.declared.endpoint.Endpoint.{Endpoint}
-use Rattle.usb_descriptor.specs.Set.{endpoint_of, endpoints_in}
+use Rattle.usb_packet.specs.declared.bus.Owner.{Owner}
+use Rattle.usb_packet.specs.declared.bus.Owner.TheVariants.{Core}
+use Rattle.usb_descriptor.specs.Set.{owner_behind, endpoints_behind, endpoints_by}
 use Rattle.usb_descriptor.specs.Rules.{is_endpoint_at, has_wrong_address, breaks, first_from, first_broken}
 use Rattle.usb_descriptor.specs.Verdict.{fault_at, earlier, rule_fault, rules, first_fault}
 
@@ -105,7 +107,7 @@ all_more P [] x all h = (h, tt)
 all_more P (y ∷ ys) x all h = (all.0, all_more P ys x all.1 h)
 
 -- an address that no endpoint before has
-any_same : (a : ℕ) (ds : List Descriptor) → list_any (is_endpoint_at a) ds ≡ list_any (eqb a) (addresses ds)
+pub any_same : (a : ℕ) (ds : List Descriptor) → list_any (is_endpoint_at a) ds ≡ list_any (eqb a) (addresses ds)
 any_same a [] = refl
 any_same a (d ∷ ds) =
     elim (cases_Bool (is_endpoint d)) [
@@ -177,12 +179,21 @@ few_endpoints config limits row left claimed reports None small er el e =
     let same : left ≡ left_of (row_of config) = el ∙ ap left_of er in
     few (left_of (row_of config)) (left_small (row_of config) 0 (row_small config small (length config) 9)) (all_good limits (left_of (row_of config)) (rw same at n))
 
+-- there are as many endpoints as descriptors of them
+pub length-behind : (owner : ℕ → Owner) (before : Owner) (ds : List Descriptor) → length (endpoints_behind owner before ds) ≡ length (filter is_endpoint ds)
+length-behind owner before [] = refl
+length-behind owner before (d ∷ ds) =
+    elim (cases_Bool (is_endpoint d)) [
+      | inl e ↦ rw e (ap suc (length-behind owner before ds))
+      | inr e ↦ rw e (length-behind owner (owner_behind owner before d) ds)
+    ]
+
 -- there is room for one more endpoint while one is left
-pub room : (row : List Descriptor) (items : List Endpoint) (i : ℕ) (d : Descriptor) → i < length row → is_endpoint (get_or row i d) ≡ true
-    → items ++ map (endpoint_of row) (filter is_endpoint (drop i row)) ≡ endpoints_in row → length (filter is_endpoint row) ≤ 30 → length items < 30
-room row items i d h e same fits =
-    let rest = filter is_endpoint (drop i row) in
+pub room : (owner : ℕ → Owner) (before : Owner) (row : List Descriptor) (items : List Endpoint) (i : ℕ) (d : Descriptor) → i < length row
+    → is_endpoint (get_or row i d) ≡ true → items ++ endpoints_behind owner before (drop i row) ≡ endpoints_by owner row
+    → length (filter is_endpoint row) ≤ 30 → length items < 30
+room owner before row items i d h e same fits =
     let more : filter is_endpoint (drop i row) ≡ get_or row i d ∷ filter is_endpoint (drop (i + 1) row) = rw (drop_more row i d h, e) refl in
     let n = ap length more in
     let m = ap length same in
-    omega (arith, n, m, length-append items (map (endpoint_of row) rest), length-map rest (endpoint_of row), length-map (filter is_endpoint row) (endpoint_of row))
+    omega (arith, n, m, length-append items (endpoints_behind owner before (drop i row)), length-behind owner before (drop i row), length-behind owner Core row)

@@ -4,3 +4,4 @@ pub mod Verdict
 pub mod Set
 pub mod Served
 pub mod Strings
+pub mod Examples

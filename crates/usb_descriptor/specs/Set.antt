@@ -1,7 +1,6 @@
 -- What an accepted set shows: its bytes, and its interfaces and endpoints with their owners.
-use Rattle.std.specs.Prelude.{◌≡◌, is_some, ℕ, List, Bool, true, false, ◌==◌, ◌&&◌, ◌||◌, position, Option, Some, None, if◌then◌else◌, map, filter, find}
+use Rattle.std.specs.Prelude.{◌≡◌, is_some, ℕ, List, [], ◌∷◌, Bool, true, false, ◌==◌, ◌&&◌, ◌||◌, position, Option, Some, None, if◌then◌else◌, map, filter, find}
 use Rattle.std.specs.List.{list_any}
-use Rattle.std.specs.Option.{option_map}
 use Rattle.usb_packet.specs.declared.bus.Owner.{Owner}
 use Rattle.usb_packet.specs.declared.bus.Owner.TheVariants.{Core, Cdc, Hid, Msc, Midi}
 use Rattle.descriptor_row.specs.declared.descriptor.Descriptor.{Descriptor}
@@ -13,6 +12,7 @@ use Rattle.usb_descriptor.specs.declared.strings.StringDescriptor.{StringDescrip
 use Rattle.usb_descriptor.specs.declared.limits.EpLimits.{EpLimits}
 use Rattle.descriptor_row.specs.Row.{byte, row_of}
 use Rattle.descriptor_row.specs.Kinds.{is_interface, is_endpoint, number, address, transfer, bulk, following_place, left_of}
+use Rattle.descriptor_groups.specs.Groups.{owner_of_number, lead_number}
 use Rattle.usb_descriptor.specs.Verdict.{verdict}
 
 -- a set, by the descriptors that a host can ask for
@@ -26,28 +26,42 @@ pub record Set : Type 0 where
 abbrev pub IsAccepted : Set → EpLimits → Type 0
 IsAccepted set limits = verdict set.device set.config (is_some set.report) limits ≡ None
 
--- who has an interface or an endpoint of a row: the class that drives its group. No class is driven yet,
--- so the core has each.
-abbrev pub owner_of : List Descriptor → Descriptor → Owner
-owner_of row d = Core
-
 abbrev pub kind_of : ℕ → EpKind
 kind_of transfer = if transfer == bulk then Bulk else Interrupt
 
 -- bEndpointAddress, bmAttributes and wMaxPacketSize (USB 2.0, 9.6.6). The twelfth rule has the size at most
 -- 64, so that its lower byte is all of it.
-abbrev pub endpoint_of : List Descriptor → Descriptor → Endpoint
-endpoint_of row d = record { addr = address d; kind = kind_of (transfer d); size = byte d 4; owner = owner_of row d }
+abbrev pub endpoint_of : Owner → Descriptor → Endpoint
+endpoint_of owner d = record { addr = address d; kind = kind_of (transfer d); size = byte d 4; owner = owner }
 
-abbrev pub interface_at : List Descriptor → Descriptor → Interface
-interface_at row d = record { number = number d; owner = owner_of row d }
+-- an interface, by what says who has the interface of a number
+abbrev pub interface_at : (ℕ → Owner) → Descriptor → Interface
+interface_at owner d = record { number = number d; owner = owner (number d) }
 
--- the endpoints and the interfaces of a row, in its order
+-- who has what stands behind a descriptor, where that owner has what stands behind the one before it: an
+-- interface has all up to the next interface (9.6.5)
+abbrev pub owner_behind : (ℕ → Owner) → Owner → Descriptor → Owner
+owner_behind owner before d = if is_interface d then owner (number d) else before
+
+-- the endpoints of descriptors, in their order, where that owner has what stands before the first interface
+abbrev pub endpoints_behind : (ℕ → Owner) → Owner → List Descriptor → List Endpoint
+endpoints_behind owner before [] = []
+endpoints_behind owner before (d ∷ ds) =
+    if is_endpoint d then endpoint_of before d ∷ endpoints_behind owner before ds
+    else endpoints_behind owner (owner_behind owner before d) ds
+
+-- the endpoints and the interfaces of a row, in its order; before the first interface all is the core's
+abbrev pub endpoints_by : (ℕ → Owner) → List Descriptor → List Endpoint
+endpoints_by owner row = endpoints_behind owner Core row
+
+abbrev pub interfaces_by : (ℕ → Owner) → List Descriptor → List Interface
+interfaces_by owner row = map (interface_at owner) (filter is_interface row)
+
 abbrev pub endpoints_in : List Descriptor → List Endpoint
-endpoints_in row = map (endpoint_of row) (filter is_endpoint row)
+endpoints_in row = endpoints_by (owner_of_number row) row
 
 abbrev pub interfaces_in : List Descriptor → List Interface
-interfaces_in row = map (interface_at row) (filter is_interface row)
+interfaces_in row = interfaces_by (owner_of_number row) row
 
 -- those of a configuration, without its passed-over parts
 abbrev pub endpoints_of : List ℕ → List Endpoint
@@ -111,7 +125,6 @@ owner_of_endpoint config a = endpoint_owner (find (is_addressed a) (endpoints_of
 abbrev pub has_owner : List ℕ → Owner → Bool
 has_owner config owner = is_core owner || list_any (belongs owner) (interfaces_of config)
 
--- the first interface of a class; the core is no class
-abbrev pub first_interface_of : List ℕ → Owner → Option ℕ
-first_interface_of config owner =
-    if is_core owner then None else option_map (λ i. i.number) (find (belongs owner) (interfaces_of config))
+-- the interface that stands for a class that is built; the core is no class
+abbrev pub interface_of : List ℕ → Owner → Option ℕ
+interface_of config owner = lead_number (left_of (row_of config)) owner

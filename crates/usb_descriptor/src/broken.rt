@@ -1,12 +1,12 @@
 ghost use Rattle.std.specs.Prelude.{◌≡◌, ◌<◌, ◌≤◌, ◌+◌, [], take, drop, length};
 ghost use Rattle.usb_descriptor.specs.Rules.{breaks, first_broken};
 
-use crate::group::{has_wrong_hid, has_wrong_pair, has_wrong_serial, is_hid};
 use crate::limits::EpLimits;
 use crate::rule::{
     Rule, has_wrong_address, has_wrong_count, has_wrong_number, has_wrong_packets, has_wrong_size,
     has_wrong_span, has_wrong_top,
 };
+use descriptor_groups::{has_wrong_hid, has_wrong_pair, has_wrong_serial, is_hid};
 use descriptor_row::Descriptor;
 
 /// Whether a descriptor breaks a rule, among those before it and after it in a row.

@@ -1,10 +1,11 @@
-ghost use Rattle.std.specs.Prelude.{◌≡◌, ◌≤◌, length, find, filter};
+ghost use Rattle.std.specs.Prelude.{◌≡◌, ◌≤◌, length, position, find, filter};
 ghost use Rattle.descriptor_row.specs.Kinds.{is_endpoint};
+ghost use Rattle.descriptor_groups.specs.Groups.{owner_of_number};
 ghost use Rattle.std.specs.List.{list_any};
-ghost use Rattle.std.specs.Option.{option_map};
-ghost use Rattle.usb_descriptor.specs.Set.{owner_of, kind_of, endpoint_of, interface_at, endpoints_in, interfaces_in, is_endpoint_at, is_numbered, is_addressed, is_core, same_owner, belongs, interface_owner, endpoint_owner};
+ghost use Rattle.usb_descriptor.specs.Set.{kind_of, endpoint_of, interface_at, owner_behind, endpoints_in, interfaces_in, is_interface_of, interface_row, is_endpoint_at, is_numbered, is_addressed, is_core, same_owner, belongs, interface_owner, endpoint_owner};
 
 use arrayvec::ArrayVec;
+use descriptor_groups::{following_place, owner_of_number};
 use descriptor_row::{BULK, Descriptor};
 use usb_packet::Owner;
 
@@ -55,15 +56,6 @@ impl Default for Interface {
     }
 }
 
-/// Who has an interface or an endpoint of a row: the class that drives its group. No class is driven yet,
-/// so the core has each.
-#[allow(unused_variables)]
-fn owner_of(row: &[Descriptor], d: &Descriptor) -> Owner
-    ensures { result ≡ owner_of row.now d.now }
-{
-    Owner::Core
-}
-
 fn kind_of(transfer: u8) -> EpKind
     ensures { result ≡ kind_of transfer }
 {
@@ -74,35 +66,50 @@ fn kind_of(transfer: u8) -> EpKind
     }
 }
 
-fn endpoint_of(row: &[Descriptor], d: &Descriptor) -> Endpoint
-    ensures { result ≡ endpoint_of row.now d.now }
+fn endpoint_of(owner: Owner, d: &Descriptor) -> Endpoint
+    ensures { result ≡ endpoint_of owner d.now }
 {
     Endpoint {
         addr: d.head[2],
         kind: kind_of(d.transfer()),
         size: d.head[4],
-        owner: owner_of(row, d),
+        owner,
     }
 }
 
 fn interface_at(row: &[Descriptor], d: &Descriptor) -> Interface
-    ensures { result ≡ interface_at row.now d.now }
+    ensures { result ≡ interface_at (owner_of_number row.now) d.now }
 {
     Interface {
         number: d.head[2],
-        owner: owner_of(row, d),
+        owner: owner_of_number(row, d.head[2]),
     }
 }
 
-/// The endpoints of a row that has at most thirty.
+/// Who has what stands behind a descriptor of a row, up to the next interface (USB 2.0, 9.6.5).
+fn owner_behind(row: &[Descriptor], before: Owner, d: &Descriptor) -> Owner
+    ensures { result ≡ owner_behind (owner_of_number row.now) before d.now }
+{
+    if d.is_interface() {
+        owner_of_number(row, d.head[2])
+    } else {
+        before
+    }
+}
+
+/// The endpoints of a row that has at most thirty. Each belongs to the owner of the interface that it stands
+/// behind.
 pub fn endpoints_in(row: &[Descriptor]) -> ArrayVec<Endpoint, 30>
     requires { length (filter is_endpoint row.now) ≤ 30 }
     ensures { result.items ≡ endpoints_in row.now }
 {
     let mut endpoints = ArrayVec::new();
+    let mut owner = Owner::Core;
     for d in row {
         if d.is_endpoint() {
-            endpoints.push(endpoint_of(row, d));
+            endpoints.push(endpoint_of(owner, d));
+        } else {
+            owner = owner_behind(row, owner, d);
         }
     }
     endpoints
@@ -153,6 +160,21 @@ pub fn endpoint_owner(endpoints: &[Endpoint], addr: u8) -> Owner
     Owner::Core
 }
 
+/// The place of the interface with a number.
+fn interface_place(row: &[Descriptor], number: u8) -> Option<usize>
+    ensures { result ≡ position (is_interface_of number) row.now }
+{
+    row.iter()
+        .position(|d| d.is_interface() && d.head[2] == number)
+}
+
+/// What follows the interface with a number, up to the next one; nothing where there is none.
+pub fn interface_row(row: &[Descriptor], number: u8) -> &[Descriptor]
+    ensures { result.now ≡ interface_row number row.now }
+{
+    following_place(interface_place(row, number), row)
+}
+
 /// Whether a row has an endpoint at an address.
 pub fn any_addressed(row: &[Descriptor], addr: u8) -> bool
     ensures { result ≡ list_any (is_endpoint_at addr) row.now }
@@ -186,16 +208,4 @@ pub fn any_belongs(interfaces: &[Interface], owner: Owner) -> bool
     ensures { result ≡ list_any (belongs owner) interfaces.now }
 {
     interfaces.iter().any(|i| same_owner(i.owner, owner))
-}
-
-/// The number of the first interface that belongs to an owner.
-pub fn first_of(interfaces: &[Interface], owner: Owner) -> Option<u8>
-    ensures { result ≡ option_map (λ i. i.number) (find (belongs owner) interfaces.now) }
-{
-    for i in interfaces {
-        if same_owner(i.owner, owner) {
-            return Some(i.number);
-        }
-    }
-    None
 }

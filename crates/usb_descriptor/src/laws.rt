@@ -1,11 +1,14 @@
-//! What an accepted set promises to a controller's driver, and that owners differ. The functions only look at bytes.
-ghost use Rattle.std.specs.Prelude.{ℕ, ◌^◌, ◌<◌, slice_index};
+//! What an accepted set promises to a controller's driver, that owners differ, and that the endpoints of an interface
+//! have its owner. The functions only look at bytes.
+ghost use Rattle.std.specs.Prelude.{ℕ, Bool, ◌^◌, ◌<◌, slice_index};
 ghost use Rattle.usb_descriptor.specs.Set.{IsAccepted, endpoints_of};
 ghost use Rattle.usb_descriptor.specs.Served.{AreServed};
-ghost use Rattle.usb_descriptor.specs.Owners.{AreToldApart};
+ghost use Rattle.usb_descriptor.specs.Owners.{AreToldApart, AreGrouped, AreAlwaysGrouped, AreLed};
+ghost use Rattle.usb_descriptor.specs.Examples.{OwnersWorked};
 
 use crate::limits::EpLimits;
 use crate::set::DescSet;
+use usb_packet::Owner;
 
 /// No two endpoints of an accepted set have one address, each has a number that the controller has in its direction
 /// and packets of 1 to 64 bytes, and they are at most thirty.
@@ -27,6 +30,25 @@ pub fn acceptance_serves(set: &DescSet)
 /// An interface belongs to one owner: no class passes for another one or for the core.
 pub fn owners_are_told_apart()
     ensures { AreToldApart }
+{}
+
+/// Each endpoint of an interface of an accepted set belongs to the interface's owner, whichever classes are built.
+#[allow(unused_variables)]
+pub fn endpoints_are_grouped(set: &DescSet)
+    ensures built { (limits : EpLimits) → IsAccepted set.now limits → AreGrouped set.now }
+    ensures always { (limits : EpLimits) → IsAccepted set.now limits → AreAlwaysGrouped set.now }
+{}
+
+/// The interface that stands for a class in an accepted set is the class's own, and each class that has an interface has that
+/// one, whichever classes are built.
+#[allow(unused_variables)]
+pub fn classes_are_led(set: &DescSet)
+    ensures { (limits : EpLimits) → IsAccepted set.now limits → (built : Owner → Bool) → AreLed set.now built }
+{}
+
+/// The owners of the interfaces and endpoints of some configurations that were worked by hand, where every class is built.
+pub fn owners_worked()
+    ensures { OwnersWorked }
 {}
 
 /// A byte has eight bits.

@@ -4,7 +4,6 @@
 
 mod broken;
 mod endpoint;
-mod group;
 pub mod laws;
 mod limits;
 mod rule;

@@ -1,11 +1,11 @@
-ghost use Rattle.std.specs.Prelude.{◌≡◌, ◌<◌, ◌≤◌, ◌+◌, [], length, count_by, position, find, take, drop};
+ghost use Rattle.std.specs.Prelude.{◌≡◌, ◌<◌, ◌≤◌, ◌+◌, count_by};
 ghost use Rattle.std.specs.List.{list_any};
-ghost use Rattle.std.specs.Option.{option_map};
-ghost use Rattle.descriptor_row.specs.Kinds.{is_interface, is_endpoint, is_in_of, is_out_of, following, following_place};
-ghost use Rattle.usb_descriptor.specs.Rules.{breaks, first_broken, has_wrong_size, has_wrong_number, has_wrong_count, is_endpoint_at, has_wrong_address, has_wrong_packets, has_wrong_top, has_wrong_span, is_bulk_pair, is_serial, is_data, is_union, has_data_pair, is_serial_group, has_wrong_serial, is_hid, is_hid_descriptor, is_hid_group, has_wrong_hid, is_storage, is_midi, has_wrong_pair};
+ghost use Rattle.descriptor_row.specs.Kinds.{is_interface};
+ghost use Rattle.usb_descriptor.specs.Rules.{has_wrong_size, has_wrong_number, has_wrong_count, is_endpoint_at, has_wrong_address, has_wrong_packets, has_wrong_top, has_wrong_span};
 
 use crate::limits::EpLimits;
-use descriptor_row::{BULK, Descriptor, INTERRUPT, following};
+use descriptor_groups::endpoints;
+use descriptor_row::{BULK, Descriptor, following};
 
 /// The rules on the descriptors of a row, in their order: A8 to A18.
 #[derive(Clone, Copy)]
@@ -46,27 +46,6 @@ fn any_interface(row: &[Descriptor]) -> bool
     ensures { result ≡ list_any is_interface row.now }
 {
     row.iter().any(|d| d.is_interface())
-}
-
-/// How many endpoints there are.
-pub fn endpoints(row: &[Descriptor]) -> usize
-    ensures { result ≡ count_by is_endpoint row.now }
-{
-    row.iter().filter(|d| d.is_endpoint()).count()
-}
-
-/// How many IN endpoints of a transfer type there are.
-pub fn ins_of(transfer: u8, row: &[Descriptor]) -> usize
-    ensures { result ≡ count_by (is_in_of transfer) row.now }
-{
-    row.iter().filter(|d| d.is_in_of(transfer)).count()
-}
-
-/// How many OUT endpoints of a transfer type there are.
-pub fn outs_of(transfer: u8, row: &[Descriptor]) -> usize
-    ensures { result ≡ count_by (is_out_of transfer) row.now }
-{
-    row.iter().filter(|d| d.is_out_of(transfer)).count()
 }
 
 /// An interface has 9 bytes (USB 2.0, 9.6.5), an endpoint 7 (9.6.6), or 9 as the audio class writes it, and an

@@ -3,18 +3,18 @@ ghost use Rattle.std.specs.Option.{option_map};
 ghost use Rattle.std.specs.Prelude.{Some, None};
 ghost use Rattle.usb_descriptor.specs.Strings.{Ascend, string_descriptor, string_of};
 ghost use Rattle.usb_descriptor.specs.Verdict.{verdict};
-ghost use Rattle.usb_descriptor.specs.Set.{Set, IsAccepted, interfaces_of, endpoints_of, is_numbered, owner_of_interface, owner_of_endpoint, has_owner, has_endpoint, first_interface_of};
+ghost use Rattle.usb_descriptor.specs.Set.{Set, IsAccepted, interfaces_of, endpoints_of, is_numbered, owner_of_interface, owner_of_endpoint, has_owner, has_endpoint, interface_of};
 ghost use Rattle.std.specs.List.{list_any};
 
 use crate::endpoint::{
     Endpoint, Interface, any_addressed, any_belongs, any_numbered, endpoint_owner, endpoints_in,
-    first_of, interface_owner, interfaces_in, is_core,
+    interface_owner, interface_row, interfaces_in, is_core,
 };
-use crate::group::interface_row;
 use crate::limits::{EpLimits, SetFault};
 use crate::strings::{StringDescriptor, StringPart, descriptors_of, string_of};
 use crate::verdict::verdict;
 use arrayvec::ArrayVec;
+use descriptor_groups::lead_number;
 use descriptor_row::{left_of, read_row};
 use std::marker::Model;
 use usb_packet::Owner;
@@ -193,14 +193,13 @@ impl DescSet {
         any_addressed(interface_row(left.as_slice(), number), addr)
     }
 
-    /// The number of the first interface that a class drives. The core is no class.
+    /// The number of the interface that stands for a class that is built: of a serial port its communications
+    /// interface, of MIDI the streaming interface. The core is no class.
     pub fn interface_of(&self, owner: Owner) -> Option<u8>
-        ensures { result ≡ first_interface_of self.now.config owner }
+        ensures { result ≡ interface_of self.now.config owner }
     {
-        if is_core(owner) {
-            None
-        } else {
-            first_of(self.interfaces.as_slice(), owner)
-        }
+        let (row, _) = read_row(self.config.as_slice());
+        let left = left_of(row.as_slice());
+        lead_number(left.as_slice(), owner)
     }
 }

@@ -54,8 +54,12 @@ const LIMITS: EpLimits = EpLimits {
 const SERIAL_AND_STORAGE: &[u8] =
     b"\x09\x02\x62\x00\x03\x01\x00\x80\x32\x08\x0b\x00\x02\x02\x02\x00\x00\x09\x04\x00\x00\x01\x02\x02\x00\x00\x05\x24\x00\x20\x01\x05\x24\x01\x00\x01\x04\x24\x02\x02\x05\x24\x06\x00\x01\x07\x05\x81\x03\x10\x00\x10\x09\x04\x01\x00\x02\x0a\x00\x00\x00\x07\x05\x01\x02\x40\x00\x00\x07\x05\x82\x02\x40\x00\x00\x09\x04\x02\x00\x02\x08\x06\x50\x00\x07\x05\x02\x02\x40\x00\x00\x07\x05\x83\x02\x40\x00\x00";
 
+/// A serial port whose data interface stands before its communications interface.
+const DATA_FIRST: &[u8] =
+    b"\x09\x02\x35\x00\x02\x01\x00\x80\x32\x09\x04\x00\x00\x02\x0a\x00\x00\x00\x07\x05\x01\x02\x40\x00\x00\x07\x05\x82\x02\x40\x00\x00\x09\x04\x01\x00\x01\x02\x02\x00\x00\x05\x24\x06\x01\x00\x07\x05\x81\x03\x10\x00\x0a";
+
 /// Configurations with the rule that each breaks and the place, or 0 and 0 where it is accepted.
-const CONFIGS: [(&[u8], u8, u16); 45] = [
+const CONFIGS: [(&[u8], u8, u16); 47] = [
     // one interface without endpoints
     (
         b"\x09\x02\x12\x00\x01\x01\x00\x80\x32\x09\x04\x00\x00\x00\xff\x00\x00\x00",
@@ -64,6 +68,13 @@ const CONFIGS: [(&[u8], u8, u16); 45] = [
     ),
     // a serial port and mass storage
     (SERIAL_AND_STORAGE, 0, 0),
+    (DATA_FIRST, 0, 0),
+    // two serial ports, the first with two union descriptors that aren't its own
+    (
+        b"\x09\x02\x66\x00\x05\x01\x00\x80\x32\x09\x04\x00\x00\x00\x0a\x00\x00\x00\x09\x04\x01\x00\x01\x02\x02\x01\x00\x05\x24\x06\x01\x07\x05\x24\x06\x02\x00\x05\x24\x06\x01\x04\x07\x05\x81\x03\x08\x00\x0a\x09\x04\x02\x00\x01\x02\x02\x01\x00\x05\x24\x06\x02\x00\x07\x05\x82\x03\x08\x00\x0a\x09\x04\x03\x00\x00\x0a\x00\x00\x00\x09\x04\x04\x00\x02\x0a\x00\x00\x00\x07\x05\x02\x02\x40\x00\x00\x07\x05\x83\x02\x40\x00\x00",
+        0,
+        0,
+    ),
     // no interface
     (b"\x09\x02\x09\x00\x00\x01\x00\x80\x32", 0, 0),
     // an alternate setting with an address that comes twice
@@ -354,7 +365,7 @@ fn configurations(rt: HostRuntime) {
         assert_eq!(rt; judged(DEVICES[0].0, config, None), (*rule, *at));
     }
     assert_eq!(rt; judged(DEVICES[0].0, CONFIGS[0].0, Some(&[])), (17, 0));
-    assert_eq!(rt; judged(DEVICES[2].0, CONFIGS[12].0, None), (1, 0));
+    assert_eq!(rt; judged(DEVICES[2].0, CONFIGS[14].0, None), (1, 0));
 }
 
 /// 512 bytes are read, in two long descriptors of a type that no rule speaks of, and 513 are not.
@@ -420,4 +431,18 @@ fn accepted(rt: HostRuntime) {
     assert_eq!(rt; set.owner_of_interface(0), Owner::Core);
     assert_eq!(rt; set.owner_of_endpoint(0x81), Owner::Core);
     assert_eq!(rt; set.interface_of(Owner::Core), None);
+}
+
+/// Interface 1 of this set is a communications interface, but no class is built.
+#[test]
+fn unbuilt(rt: HostRuntime) {
+    let set = read(DEVICES[0].0, DATA_FIRST, &[], None).expect(&rt, "accepted");
+    assert_eq!(rt; set.interface_of(Owner::Cdc), None);
+    assert_eq!(rt; set.endpoints().len(), 3);
+    for endpoint in set.endpoints() {
+        assert_eq!(rt; endpoint.owner, Owner::Core);
+    }
+    assert_eq!(rt; set.owner_of_interface(1), Owner::Core);
+    assert_eq!(rt; set.owner_of_endpoint(0x82), Owner::Core);
+    assert!(rt; set.has_endpoint(0, 0x82) && set.has_endpoint(1, 0x81));
 }

@@ -1,6 +1,7 @@
 use Rattle.std.proofs.Common.{◌≡◌, ◌≤◌, ◌++◌, length, drop, map}
 use Rattle.std.specs.Prelude.{filter}
 use Rattle.descriptor_row.specs.Kinds.{is_interface}
+use Rattle.descriptor_groups.specs.Groups.{owner_of_number}
 use Rattle.usb_descriptor.specs.Set.{interface_at, interfaces_in}
 use Rattle.usb_descriptor.proofs.endpoint.interfaces_in.Given as goal
 
@@ -8,5 +9,5 @@ use Rattle.usb_descriptor.proofs.endpoint.interfaces_in.Given as goal
 abbrev pub invariant-loop-d : goal.invariant-loop-d
 invariant-loop-d l = record {
   few : length l.interfaces.items ≤ l.d-index;
-  same : l.interfaces.items ++ map (interface_at l.row) (filter is_interface (drop l.d-index l.row)) ≡ interfaces_in l.row;
+  same : l.interfaces.items ++ map (interface_at (owner_of_number l.row)) (filter is_interface (drop l.d-index l.row)) ≡ interfaces_in l.row;
 }

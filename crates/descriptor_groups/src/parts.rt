@@ -1,14 +1,12 @@
-ghost use Rattle.std.specs.Prelude.{◌≡◌, ◌<◌, ◌≤◌, ◌+◌, length, position, find};
+ghost use Rattle.std.specs.Prelude.{◌≡◌, ◌<◌, ◌≤◌, ◌+◌, length, count_by, position, find};
 ghost use Rattle.std.specs.List.{list_any};
-ghost use Rattle.descriptor_row.specs.Kinds.{following_place};
-ghost use Rattle.usb_descriptor.specs.Set.{is_interface_of, interface_row};
-ghost use Rattle.usb_descriptor.specs.Rules.{is_bulk_pair, is_serial, is_data, is_union, has_data_pair, is_serial_group, has_wrong_serial, is_hid, is_hid_descriptor, is_hid_group, has_wrong_hid, is_storage, is_midi, has_wrong_pair};
+ghost use Rattle.descriptor_row.specs.Kinds.{is_endpoint, is_in_of, is_out_of, following_place};
+ghost use Rattle.descriptor_groups.specs.Parts.{is_bulk_pair, is_serial, is_data, is_union, has_data_pair, is_serial_group, has_wrong_serial, is_hid, is_hid_descriptor, is_hid_group, has_wrong_hid, is_storage, is_midi, has_wrong_pair};
 
-use crate::rule::{endpoints, ins_of, outs_of};
 use descriptor_row::{BULK, Descriptor, INTERRUPT, following};
 
 /// Whether this is a serial port's communications interface: class 02, subclass 02 (CDC 1.2, 4.2 and 4.3).
-fn is_serial(d: &Descriptor) -> bool
+pub fn is_serial(d: &Descriptor) -> bool
     ensures { result ≡ is_serial d.now }
 {
     d.is_of_subclass(2, 2)
@@ -38,17 +36,38 @@ fn is_hid_descriptor(d: &Descriptor) -> bool
 }
 
 /// Whether this is mass storage: class 08, subclass 06, protocol 50 (Bulk-Only 1.0, 4.3).
-fn is_storage(d: &Descriptor) -> bool
+pub fn is_storage(d: &Descriptor) -> bool
     ensures { result ≡ is_storage d.now }
 {
     d.is_of_protocol(8, 6, 0x50)
 }
 
 /// Whether this is MIDI streaming: class 01, subclass 03 (USB MIDI 1.0, 6.1.1).
-fn is_midi(d: &Descriptor) -> bool
+pub fn is_midi(d: &Descriptor) -> bool
     ensures { result ≡ is_midi d.now }
 {
     d.is_of_subclass(1, 3)
+}
+
+/// How many endpoints there are.
+pub fn endpoints(row: &[Descriptor]) -> usize
+    ensures { result ≡ count_by is_endpoint row.now }
+{
+    row.iter().filter(|d| d.is_endpoint()).count()
+}
+
+/// How many IN endpoints of a transfer type there are.
+fn ins_of(transfer: u8, row: &[Descriptor]) -> usize
+    ensures { result ≡ count_by (is_in_of transfer) row.now }
+{
+    row.iter().filter(|d| d.is_in_of(transfer)).count()
+}
+
+/// How many OUT endpoints of a transfer type there are.
+fn outs_of(transfer: u8, row: &[Descriptor]) -> usize
+    ensures { result ≡ count_by (is_out_of transfer) row.now }
+{
+    row.iter().filter(|d| d.is_out_of(transfer)).count()
 }
 
 /// Whether there are one bulk IN and one bulk OUT endpoint, and no other.
@@ -85,7 +104,7 @@ fn is_union(row: &[Descriptor], controlling: u8, d: &Descriptor) -> bool
 }
 
 /// The first union descriptor of a controlling interface.
-fn union_of(row: &[Descriptor], controlling: u8, after: &[Descriptor]) -> Option<Descriptor>
+pub fn union_of(row: &[Descriptor], controlling: u8, after: &[Descriptor]) -> Option<Descriptor>
     ensures { result ≡ find (is_union row.now controlling) after.now }
 {
     for d in after {
@@ -97,28 +116,13 @@ fn union_of(row: &[Descriptor], controlling: u8, after: &[Descriptor]) -> Option
 }
 
 /// What follows the descriptor at a place, up to the next interface.
-fn following_place(place: Option<usize>, row: &[Descriptor]) -> &[Descriptor]
+pub fn following_place(place: Option<usize>, row: &[Descriptor]) -> &[Descriptor]
     ensures { result.now ≡ following_place place row.now }
 {
     match place {
         Some(place) if place < row.len() => following(&row[place + 1..]),
         _ => &[],
     }
-}
-
-/// The place of the interface with a number.
-fn interface_place(row: &[Descriptor], number: u8) -> Option<usize>
-    ensures { result ≡ position (is_interface_of number) row.now }
-{
-    row.iter()
-        .position(|d| d.is_interface() && d.head[2] == number)
-}
-
-/// What follows the interface with a number, up to the next one; nothing where there is none.
-pub fn interface_row(row: &[Descriptor], number: u8) -> &[Descriptor]
-    ensures { result.now ≡ interface_row number row.now }
-{
-    following_place(interface_place(row, number), row)
 }
 
 /// Whether the data interface that a union descriptor names has a bulk pair.

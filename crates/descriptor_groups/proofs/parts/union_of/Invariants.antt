@@ -1,7 +1,7 @@
 use Rattle.std.proofs.Common.{◌≡◌, drop}
 use Rattle.std.specs.Prelude.{find}
-use Rattle.usb_descriptor.specs.Rules.{is_union}
-use Rattle.usb_descriptor.proofs.group.union_of.Given as goal
+use Rattle.descriptor_groups.specs.Parts.{is_union}
+use Rattle.descriptor_groups.proofs.parts.union_of.Given as goal
 
 -- none so far is the one
 abbrev pub invariant-loop-d : goal.invariant-loop-d
