@@ -1,0 +1,182 @@
+// What an application asks.
+ghost use Rattle.std.specs.Prelude.{◌≡◌, ◌≢◌, ◌+◌, ◌≤◌, ◌&&◌, []};
+ghost use Rattle.usb_pipe.specs.Said.{Fits, SaysAlone, reply_with};
+ghost use Rattle.usb_pipe.specs.Own.{IsPipe, phase_at, given, read as read_, call_accesses, work_accesses};
+ghost use Rattle.cdc_device_machine.specs.Port.{IsInRange, most_read, is_shut, is_closed, start_reply, line_reply, notification, with_flush, with_notice, call_reply, pipes_after_call};
+
+use crate::device::{CdcDevice, DATA_IN, DATA_OUT, NOTICES};
+use crate::work::is_at_rest;
+use arrayvec::ArrayVec;
+use usb_pipe::{CdcDeviceCall, DevPipes, Phase, Reply, Said, reply_of};
+
+/// The most bytes that a call reads.
+const MOST_READ: usize = 1024;
+
+impl CdcDevice {
+    /// Answers a call. The bytes of the answer are left in `bytes`, which is emptied first.
+    pub fn answer<P: DevPipes>(
+        &self,
+        pipes: &mut P,
+        call: &CdcDeviceCall,
+        bytes: &mut ArrayVec<u8, 4096>,
+    ) -> Said
+        requires sound { P.sound pipes.old }
+        requires spare { work_accesses ≤ P.spare pipes.old }
+        requires range { IsInRange call.now }
+        ensures reply { reply_with result bytes.new.items ≡ call_reply self.now.port (P.pipes pipes.old) call.now }
+        ensures fits { Fits result bytes.new.items }
+        ensures pipes { P.pipes pipes.new ≡ pipes_after_call self.now.interface (P.pipes pipes.old) call.now }
+        ensures beside { P.beside pipes.old pipes.new }
+        ensures sound { P.sound pipes.new }
+        ensures spends { P.spare pipes.old ≤ P.spare pipes.new + work_accesses }
+    {
+        bytes.clear();
+        if is_shut_down(pipes) {
+            return Said::Closed;
+        }
+        match call {
+            CdcDeviceCall::Write(data) => Said::Took(pipes.write(DATA_IN, data.as_slice())),
+            CdcDeviceCall::Read(most) => read(pipes, *most, bytes),
+            CdcDeviceCall::Flush => flush(pipes),
+            CdcDeviceCall::Avail => Said::Held(pipes.held(DATA_OUT)),
+            CdcDeviceCall::Line => self.line(),
+            CdcDeviceCall::Notify(bits) => notify(pipes, self.interface, *bits),
+        }
+    }
+
+    /// Answers a call with a reply that has its bytes.
+    pub fn call<P: DevPipes>(&self, pipes: &mut P, call: &CdcDeviceCall) -> Reply
+        requires sound { P.sound pipes.old }
+        requires spare { work_accesses ≤ P.spare pipes.old }
+        requires range { IsInRange call.now }
+        ensures reply { result ≡ call_reply self.now.port (P.pipes pipes.old) call.now }
+        ensures pipes { P.pipes pipes.new ≡ pipes_after_call self.now.interface (P.pipes pipes.old) call.now }
+        ensures beside { P.beside pipes.old pipes.new }
+        ensures sound { P.sound pipes.new }
+        ensures spends { P.spare pipes.old ≤ P.spare pipes.new + work_accesses }
+    {
+        let mut bytes = ArrayVec::new();
+        let said = self.answer(pipes, call, &mut bytes);
+        reply_of(said, bytes)
+    }
+
+    /// The line coding (CDC PSTN 1.2, 6.3.11) and the control lines (6.3.12).
+    fn line(&self) -> Said
+        ensures { SaysAlone result (line_reply self.now.port) }
+    {
+        let coding = &self.coding;
+        Said::LineIs(
+            coding.rate,
+            coding.stop,
+            coding.parity,
+            coding.bits,
+            self.dtr,
+            self.rts,
+        )
+    }
+}
+
+/// Whether no session stands: then the data pipes are closed.
+fn is_shut_down<P: DevPipes>(pipes: &P) -> bool
+    requires { P.sound pipes.now }
+    ensures { result ≡ is_shut (P.pipes pipes.now) }
+{
+    is_pipe_closed(pipes, DATA_IN) || is_pipe_closed(pipes, DATA_OUT)
+}
+
+/// Whether no session has a pipe open.
+fn is_pipe_closed<P: DevPipes>(pipes: &P, pipe: u8) -> bool
+    requires sound { P.sound pipes.now }
+    requires pipe { IsPipe pipe }
+    ensures { result ≡ is_closed (phase_at (P.pipes pipes.now) pipe) }
+{
+    matches!(pipes.phase(pipe), Phase::Closed)
+}
+
+/// Takes the first bytes that came.
+fn read<P: DevPipes>(pipes: &mut P, most: u16, bytes: &mut ArrayVec<u8, 4096>) -> Said
+    requires sound { P.sound pipes.old }
+    requires open { phase_at (P.pipes pipes.old) 1 ≢ Phase.Closed }
+    requires most { most ≤ most_read }
+    requires empty { bytes.old.items ≡ [] }
+    ensures got { result ≡ Said.Got }
+    ensures bytes { bytes.new.items ≡ given (P.pipes pipes.old) most }
+    ensures pipes { P.pipes pipes.new ≡ read_ (P.pipes pipes.old) most }
+    ensures beside { P.beside pipes.old pipes.new }
+    ensures sound { P.sound pipes.new }
+    ensures spends { P.spare pipes.old ≤ P.spare pipes.new + work_accesses }
+{
+    let mut cells = [0; MOST_READ];
+    let buf = &mut cells[..most as usize];
+    let count = pipes.read(DATA_OUT, buf);
+    let _ = bytes.try_extend_from_slice(&buf[..count as usize]);
+    Said::Got
+}
+
+/// Starts what is queued, where anything is.
+fn flush<P: DevPipes>(pipes: &mut P) -> Said
+    requires sound { P.sound pipes.old }
+    requires spare { call_accesses ≤ P.spare pipes.old }
+    ensures reply { SaysAlone result (start_reply (phase_at (P.pipes pipes.old) 0)) }
+    ensures pipes { P.pipes pipes.new ≡ with_flush (P.pipes pipes.old) }
+    ensures beside { P.beside pipes.old pipes.new }
+    ensures sound { P.sound pipes.new }
+    ensures spends { P.spare pipes.old ≤ P.spare pipes.new + work_accesses }
+{
+    let phase = pipes.phase(DATA_IN);
+    if is_at_rest(pipes, DATA_IN) && pipes.held(DATA_IN) != 0 {
+        pipes.start(DATA_IN);
+    }
+    said_at(phase)
+}
+
+/// Starts the notification SERIAL_STATE (CDC PSTN 1.2, 6.5.4), where none is under way.
+fn notify<P: DevPipes>(pipes: &mut P, interface: u8, bits: u16) -> Said
+    requires sound { P.sound pipes.old }
+    requires spare { call_accesses ≤ P.spare pipes.old }
+    ensures reply { SaysAlone result (start_reply (phase_at (P.pipes pipes.old) 2)) }
+    ensures pipes { P.pipes pipes.new ≡ with_notice interface bits (P.pipes pipes.old) }
+    ensures beside { P.beside pipes.old pipes.new }
+    ensures sound { P.sound pipes.new }
+    ensures spends { P.spare pipes.old ≤ P.spare pipes.new + work_accesses }
+{
+    let phase = pipes.phase(NOTICES);
+    if is_at_rest(pipes, NOTICES) {
+        send(pipes, interface, bits);
+    }
+    said_at(phase)
+}
+
+/// Sends the notification SERIAL_STATE on a pipe that rests.
+fn send<P: DevPipes>(pipes: &mut P, interface: u8, bits: u16)
+    requires sound { P.sound pipes.old }
+    requires rests { phase_at (P.pipes pipes.old) 2 ≡ Phase.Rest }
+    requires spare { call_accesses ≤ P.spare pipes.old }
+    ensures pipes { P.pipes pipes.new ≡ with_notice interface bits (P.pipes pipes.old) }
+    ensures beside { P.beside pipes.old pipes.new }
+    ensures sound { P.sound pipes.new }
+    ensures spends { P.spare pipes.old ≤ P.spare pipes.new + call_accesses }
+{
+    pipes.write(NOTICES, &serial_state(interface, bits));
+    pipes.start(NOTICES);
+}
+
+/// The notification SERIAL_STATE (CDC PSTN 1.2, 6.5.4) of an interface with these bits.
+fn serial_state(interface: u8, bits: u16) -> [u8; 10]
+    ensures { result ≡ notification interface bits }
+{
+    let [low, high] = bits.to_le_bytes();
+    [0xa1, 0x20, 0, 0, interface, 0, 2, 0, low, high]
+}
+
+/// What a call that starts a transfer is answered, by what its pipe does.
+fn said_at(phase: Phase) -> Said
+    ensures { SaysAlone result (start_reply phase) }
+{
+    match phase {
+        Phase::Rest => Said::Done,
+        Phase::Halted => Said::Halted,
+        Phase::Running | Phase::Posted => Said::Busy,
+        Phase::Closed | Phase::Dead | Phase::Clearing => Said::Closed,
+    }
+}

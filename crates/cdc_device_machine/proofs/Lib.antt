@@ -1,0 +1,3 @@
+mod Codings
+mod Phases
+mod Transfers

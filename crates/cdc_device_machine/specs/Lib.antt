@@ -1,0 +1,4 @@
+pub mod Coding
+pub mod Examples
+pub mod Laws
+pub mod Port
