@@ -1,0 +1,11 @@
+pub mod Sets
+pub mod Mask
+pub mod Seen
+pub mod Choices
+pub mod Kept
+pub mod View
+pub mod Holding
+pub mod Stages
+pub mod Effects
+pub mod Task
+pub mod Along

@@ -1,0 +1,4 @@
+//! A device with its classes, as the machine of each owner, and why owners are kept apart.
+#![tactic(auto)]
+
+pub mod laws;
