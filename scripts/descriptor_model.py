@@ -67,18 +67,25 @@ def first(interfaces, *codes):
     return next((i for i in interfaces if i.is_a(*codes)), None)
 
 
-def serial_is_good(interfaces):
+def serial_group(interfaces):
+    """The communication interface and the data interface of the serial port that is driven, or None (CDC 1.2, 5.2.3.2)."""
     group = first(interfaces, 2, 2)
-    if group is None:
-        return True
-    for _, d in group.others:
+    for _, d in group.others if group else []:
         if d[0] >= 5 and d[1] == 0x24 and d[2] == 6 and d[3] == group.data[2]:
             data = [i for i in interfaces if i.data[2] == d[4] and i.is_a(0x0A)]
             if data:
-                ends = [e for _, e in group.endpoints]
-                one = len(ends) == 1 and is_in(ends[0]) and kind(ends[0]) == INTERRUPT
-                return one and has_pair(data[0])
-    return False
+                return group, data[0]
+    return None
+
+
+def serial_is_good(interfaces):
+    if first(interfaces, 2, 2) is None:
+        return True
+    group = serial_group(interfaces)
+    if group is None:
+        return False
+    ends = [e for _, e in group[0].endpoints]
+    return len(ends) == 1 and is_in(ends[0]) and kind(ends[0]) == INTERRUPT and has_pair(group[1])
 
 
 def reports_are_good(interfaces):

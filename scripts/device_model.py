@@ -1,10 +1,14 @@
 """A device as a host and its own software see it, by docs/MODEL.md, with no code of the crates."""
 
-from descriptor_model import grouped, left_of, row_of
+from descriptor_model import grouped, is_in, kind, left_of, row_of, serial_group, INTERRUPT
+from pipe_model import InPipe, OutPipe
+from serial_model import SerialPort
 
 PACKET = 64
 MOST_UNSERVED = 3
 LANGUAGES = b"\x04\x03\x09\x04"
+# the classes that the program drives; the endpoints of the others are the core's
+DRIVEN = frozenset()
 
 
 class Device:
@@ -12,17 +16,65 @@ class Device:
         self.device, self.config, self.strings = device, config, strings
         _, self.interfaces = grouped(left_of(row_of(config)[0]))
         self.sizes = {e[2]: e[4] for i in self.interfaces for _, e in i.endpoints}
-        self.awake = self.was_reset = False
+        self.classes, self.owners = {}, {}
+        if "cdc" in DRIVEN:
+            self.drive_serial(serial_group(self.interfaces))
+        self.pipes, self.dropped = {}, set()
+        self.session = self.awake = self.was_reset = False
         self.clear()
 
+    def drive_serial(self, group):
+        """The class of each interface that is driven, and of each of its endpoints."""
+        if group is None:
+            return
+        port = SerialPort(group[0].data[2])
+        for interface in group:
+            self.classes[interface.data[2]] = port
+            self.owners.update({e[2]: port for _, e in interface.endpoints})
+
+    def works(self):
+        return dict.fromkeys(self.classes.values())
+
+    def end_session(self):
+        if self.session:
+            for each in self.works():
+                each.closed()
+        self.dropped |= {a for a, p in self.pipes.items() if a < 128 and p.phase in ("landed", "stale")}
+        self.session, self.halted, self.pipes = False, set(), {}
+
+    def begin_session(self):
+        self.session = True
+        for interface in self.interfaces:
+            for _, e in interface.endpoints:
+                if e[2] in self.owners:
+                    self.pipes[e[2]] = self.pipe(e)
+        for each in self.works():
+            each.opened(self.pipes_of(each))
+
+    def pipe(self, e):
+        room = SerialPort.ROOM["notices" if kind(e) == INTERRUPT else "data"]
+        if is_in(e):
+            return InPipe(e[4], room)
+        stale = e[2] in self.dropped
+        self.dropped.discard(e[2])
+        return OutPipe(e[4], room, stale)
+
+    def pipes_of(self, port):
+        """Its pipe for the host, the one from the host, and the one for notifications."""
+        ends = {a: p for a, p in self.pipes.items() if self.owners[a] is port}
+        control = {e[2] for _, e in self.interfaces[port.interface].endpoints}
+        inward = next(p for a, p in ends.items() if a >= 128 and a not in control)
+        return inward, next(p for a, p in ends.items() if a < 128), next(p for a, p in ends.items() if a in control)
+
     def clear(self):
-        self.address, self.session, self.halted = 0, False, set()
+        self.end_session()
+        self.address, self.dropped = 0, set()
         self.setups = []
         self.side, self.packet, self.is_last = "off", b"", False
         self.taken = False
         self.note = None
         self.setup_note = None
-        self.to_come = []
+        self.to_come, self.taking = [], None
         self.new_address = None
         self.toggle = 1
 
@@ -32,6 +84,10 @@ class Device:
 
     def state(self):
         return f"state {self.address} {int(self.session)}"
+
+    def cdc(self, verb, *values):
+        port = next((each for each in self.works() if isinstance(each, SerialPort)), None)
+        return "closed" if port is None or not self.session else port.call(verb, *values)
 
     def reset(self):
         self.awake, self.was_reset = False, True
@@ -43,7 +99,7 @@ class Device:
             self.awake, self.was_reset = True, False
             return "ok"
         if self.side in ("sent", "came"):
-            self.note, self.side = self.side, "off"
+            self.note, self.side = (self.side, self.packet), "off"
             if self.new_address is not None:
                 self.address, self.new_address = self.new_address, None
                 return "ok"
@@ -51,25 +107,46 @@ class Device:
             self.setup_note, self.setups, self.side = self.setups[-1], [], "off"
         elif self.side == "wait":
             self.side = "last" if self.is_last else "loaded"
+        for each in self.pipes.values():
+            each.irq()
+        self.dropped.clear()
         return "ok"
 
     def task(self):
-        if self.note == "sent" and self.to_come:
-            self.give_next()
-        elif self.note is not None:
-            self.to_come = []
+        if self.note is not None:
+            self.go_on(*self.note)
         self.note = None
         if self.setup_note is not None:
-            self.to_come, self.new_address = [], None
+            self.to_come, self.taking, self.new_address = [], None, None
             self.start(self.setup_note)
             self.setup_note = None
+        for address, pipe in sorted(self.pipes.items()):
+            told = pipe.task()
+            if address < 128 and told:
+                self.owners[address].came(pipe)
+            elif address >= 128 and told is not None:
+                self.owners[address].ended(pipe, told)
+        for each in self.works():
+            each.work()
         return "ok"
+
+    def go_on(self, note, packet):
+        if note == "sent" and self.to_come:
+            self.give_next()
+        elif note == "came" and self.taking is not None:
+            self.side, self.packet, self.is_last = "wait" if self.taking.takes(packet) else "stall", b"", False
+            self.taking = None
+        else:
+            self.to_come, self.taking = [], None
 
     def start(self, setup):
         value, length = int.from_bytes(setup[2:4], "little"), int.from_bytes(setup[6:], "little")
-        data = self.request(tuple(setup[:2]), value, setup[4])
+        owner = self.class_of(setup)
+        data = owner.request(setup) if owner else self.request(tuple(setup[:2]), value, setup[4])
         if data is None:
             self.side = "stall"
+        elif isinstance(data, int):
+            self.side, self.taking = "armed", owner
         elif data == "status" or length == 0:
             self.side, self.packet, self.is_last = "wait", b"", False
         else:
@@ -78,6 +155,21 @@ class Device:
             if len(cut) < length and len(cut) % PACKET == 0:
                 self.to_come.append(b"")
             self.give_next()
+
+    def class_of(self, setup):
+        """The class that decides a request: in a session that of the interface which a class request names."""
+        return self.classes.get(setup[4]) if self.session and setup[0] in (0x21, 0xA1) else None
+
+    def halts(self, address, halted):
+        """Halts an endpoint, or clears its halt."""
+        if address in self.pipes:
+            pipe = self.pipes[address]
+            pipe.clear() if not halted else setattr(pipe, "halted", True)
+        else:
+            (self.halted.add if halted else self.halted.discard)(address)
+
+    def is_halted(self, address):
+        return self.pipes[address].halted if address in self.pipes else address in self.halted
 
     def request(self, asked, value, index):
         """The data of a request, `status` where it has none, and None where it is refused."""
@@ -88,10 +180,10 @@ class Device:
         if asked == (0x81, 0):
             return bytes(2) if interface else None
         if asked == (0x82, 0):
-            return bytes([index in self.halted, 0]) if endpoint else None
+            return bytes([self.is_halted(index), 0]) if endpoint else None
         if asked in ((0x02, 1), (0x02, 3)) and value == 0 and endpoint:
             if index not in (0, 0x80):
-                (self.halted.add if asked[1] == 3 else self.halted.discard)(index)
+                self.halts(index, asked[1] == 3)
             return "status"
         if asked == (0x00, 5) and value <= 127:
             self.new_address = value
@@ -101,12 +193,15 @@ class Device:
         if asked == (0x80, 8):
             return bytes([self.config[5] if self.session else 0])
         if asked == (0x00, 9) and value in (0, self.config[5]):
-            self.session, self.halted = value != 0, set()
+            self.end_session()
+            if value:
+                self.begin_session()
             return "status"
         if asked == (0x81, 10):
             return bytes(1) if interface else None
         if asked == (0x01, 11) and interface and value == 0:
-            self.halted -= {e[2] for _, e in self.interfaces[index].endpoints}
+            for _, e in self.interfaces[index].endpoints:
+                self.halts(e[2], False)
             return "status"
         return None
 
@@ -140,8 +235,9 @@ class Device:
         if not self.awake or not good or address != self.address:
             return "none"
         if endpoint != 0:
-            opened = self.session and endpoint in self.sizes and len(data) <= self.sizes[endpoint]
-            return "nak" if opened else "none"
+            if not self.session or len(data) > self.sizes.get(endpoint, -1):
+                return "none"
+            return self.pipes[endpoint].packet(toggle, data) if endpoint in self.pipes else "nak"
         if self.setups:
             return "nak"
         if self.side == "stall":
@@ -151,14 +247,17 @@ class Device:
         if self.side not in ("armed", "last"):
             return "nak"
         if toggle == 1:
-            self.taken, self.side = True, "came"
+            self.taken, self.side, self.packet = True, "came", data
         return "ack"
 
     def in_(self, address, endpoint, acknowledged):
         if not self.awake or address != self.address:
             return "none"
         if endpoint != 0:
-            return "nak" if self.session and 128 + endpoint in self.sizes else "none"
+            endpoint += 128
+            if not self.session or endpoint not in self.sizes:
+                return "none"
+            return self.pipes[endpoint].token(acknowledged) if endpoint in self.pipes else "nak"
         if self.setups:
             return "nak"
         if self.side == "stall":

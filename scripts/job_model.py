@@ -10,7 +10,7 @@ import re
 import sys
 
 from descriptor_model import fault_of
-from device_model import PACKET, Device
+from device_model import DRIVEN, PACKET, Device
 
 MOST_LINE = 8400
 
@@ -42,6 +42,16 @@ SCHEDULE = {
     b"out": [ADDRESS, ENDPOINT, (5, number, 0, 1), (6, data, 0, PACKET), FATE],
     b"in": [ADDRESS, ENDPOINT, (7, choice, b"ok", b"noack")],
 }
+SERIAL = {
+    b"cdc write": [(6, data, 1, 1024)],
+    b"cdc read": [(5, number, 1, 1024)],
+    b"cdc flush": [],
+    b"cdc avail": [],
+    b"cdc line": [],
+    b"cdc notify": [(5, number, 0, 65535)],
+}
+if "cdc" in DRIVEN:
+    SCHEDULE.update(SERIAL)
 HEAD = {
     b"device": [(6, data, 1, 64)],
     b"config": [(6, data, 1, 600)],
@@ -58,15 +68,17 @@ def read_line(line, table):
     if any(not 0x20 <= b <= 0x7E for b in line):
         return 2
     words = line.split(b" ")
-    name = next((word for word in words if word), b"")
-    if name not in table:
+    whole = [word for word in words if word]
+    named = next((n for n in (1, 2) if b" ".join(whole[:n]) in table), None)
+    if named is None or len(whole) < named:
         return 3
+    name = b" ".join(whole[:named])
     fields = table[name]
-    if len(words) != len(fields) + 1 or b"" in words:
+    if len(words) != len(fields) + named or b"" in words:
         return 4
-    values = [(rule, read(word, *bounds)) for (rule, read, *bounds), word in zip(fields, words[1:])]
+    values = [(rule, read(word, *bounds)) for (rule, read, *bounds), word in zip(fields, words[named:])]
     broken = [rule for rule, value in values if value is None]
-    return min(broken) if broken else ("in_" if name == b"in" else name.decode(), *(value for _, value in values))
+    return min(broken) if broken else (*("in_" if name == b"in" else name.decode()).split(), *(value for _, value in values))
 
 
 class Head:
