@@ -1,5 +1,5 @@
 -- The states of a device's four classes, each at its owner's place. The core has no class: what stands at its place stays as it was.
-use Rattle.std.specs.Prelude.{List, [], ◌∷◌, Bool, true, if◌then◌else◌}
+use Rattle.std.specs.Prelude.{List, [], ◌∷◌}
 use Rattle.usb_packet.specs.declared.bus.Owner as declared
 use Rattle.usb_packet.specs.declared.bus.Owner.TheVariants.{Core, Cdc, Hid, Msc, Midi}
 use Rattle.usb_pipe.specs.Rules.{Rules}

@@ -1,4 +1,5 @@
 pub mod Classes
+pub mod Laws
 pub mod Memory
 pub mod Own
 pub mod Rules

@@ -129,13 +129,6 @@ dropped_at own n =
     then with_receiver own (record own.receives { pipe = out.dropped own.receives.pipe })
     else with_sender own n (record (sender own n) { pipe = inward.dropped (sender own n).pipe })
 
--- no pipe holds or has queued more than it has room for
-abbrev pub AreWithin : Own → Type 0
-AreWithin own =
-    (length own.sends.pipe.queue ≤ own.sends.capacity)
-    × (length own.receives.pipe.held ≤ own.receives.capacity)
-    × (length own.notifies.pipe.queue ≤ own.notifies.capacity)
-
 -- the fewest free bytes with which a pipe is armed: a packet's (USB 2.0, 5.8.3)
 abbrev pub packet_room : ℕ
 packet_room = 64

@@ -5,6 +5,7 @@
 mod call;
 mod classes;
 mod decision;
+pub mod laws;
 mod memory;
 mod phase;
 mod pipes;
