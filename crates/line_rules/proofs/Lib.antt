@@ -1,2 +1,5 @@
 pub mod Walks
 pub mod Judged
+pub mod Found
+pub mod Kept
+pub mod Names

@@ -1,11 +1,12 @@
 -- Walking along a line's words and the fields that they stand for.
-use Rattle.std.proofs.Common.{◌≡◌, ℕ, ◌+◌, ◌<◌, List, [], ◌∷◌, Bool, true, false, ◌&&◌, not, eqb, length, drop, get_or, refl, ap, sym, ◌∙◌, arith}
+use Rattle.std.proofs.Common.{◌≡◌, ℕ, ◌+◌, ◌<◌, List, [], ◌∷◌, ◌++◌, Bool, true, false, Option, Some, None, ◌&&◌, not, eqb, length, drop, get_or, refl, ap, sym, ◌∙◌, arith}
 use Rattle.std.specs.List.{list_all}
 use Rattle.std.proofs.lemmas.List.{drop_more}
 use Rattle.std.proofs.lemmas.Bool.Decides.{nat_tests}
 use Rattle.line_rules.specs.declared.rules.Field.{Field}
-use Rattle.line_rules.specs.declared.rules.Field.TheVariants.{Number}
-use Rattle.line_rules.specs.Rules.{is_empty, begins_with_word, has_words, next_keeps, all_keep}
+use Rattle.line_rules.specs.declared.rules.Field.TheVariants.{Name}
+use Rattle.line_rules.specs.Rules.{is_empty, front, further, listed, by_word, has_words, all_keep}
+use Rattle.line_rules.specs.Walks.{begins_with_word, begins_with, after_field, next_keeps, words_keep}
 
 -- a word for each field
 abbrev pub shaped : List Field → List (List ℕ) → Bool
@@ -56,29 +57,63 @@ shaped_counts (f ∷ fs) (w ∷ ws) =
 pub shaped_line : (fields : List Field) (words : List (List ℕ)) → (begins_with_word words && shaped fields (drop 1 words)) ≡ has_words fields words
 shaped_line fields [] = rw (eqb_zero (length fields)) refl
 shaped_line fields (w ∷ ws) =
-    let e : length (Number 0 0 ∷ fields) ≡ 1 + length fields = omega arith in
-    shaped_counts (Number 0 0 ∷ fields) (w ∷ ws)
+    let e : length (Name ∷ fields) ≡ 1 + length fields = omega arith in
+    shaped_counts (Name ∷ fields) (w ∷ ws)
     ∙ ap (λ n. eqb (length (w ∷ ws)) n && list_all (λ word. not (is_empty word)) (w ∷ ws)) e
 
 shaped_cons : (field : Field) (fields : List Field) (words : List (List ℕ)) → shaped (field ∷ fields) words ≡ (begins_with_word words && shaped fields (drop 1 words))
 shaped_cons field fields [] = refl
 shaped_cons field fields (w ∷ ws) = refl
 
+two_dropped : (words : List (List ℕ)) → drop 1 (drop 1 words) ≡ drop 2 words
+two_dropped [] = refl
+two_dropped (w ∷ []) = refl
+two_dropped (w ∷ v ∷ ws) = refl
+
+-- the words of one field, and those of the others
+shaped_field : (field : Field) (fields : List Field) (words : List (List ℕ)) (next : Option Field)
+    → shaped (field ∷ (listed next ++ by_word fields (drop (1 + length (listed next)) words))) words
+    ≡ (begins_with next words && shaped (by_word fields (after_field next words)) (after_field next words))
+shaped_field field fields words None = shaped_cons field (by_word fields (drop 1 words)) words
+shaped_field field fields words (Some next) =
+    shaped_cons field (next ∷ by_word fields (drop 2 words)) words
+    ∙ ap (λ b. begins_with_word words && b) (shaped_cons next (by_word fields (drop 2 words)) (drop 1 words)
+    ∙ ap (λ (ws : List (List ℕ)). begins_with_word (drop 1 words) && shaped (by_word fields (drop 2 words)) ws) (two_dropped words))
+    ∙ sym (and_assoc (begins_with_word words) (begins_with_word (drop 1 words)) (shaped (by_word fields (drop 2 words)) (drop 2 words)))
+
 pub shaped_step : (whole : Bool) (fields : List Field) (words : List (List ℕ)) (i : ℕ) → i < length fields
-    → ((whole && begins_with_word words) && shaped (drop (i + 1) fields) (drop 1 words)) ≡ (whole && shaped (drop i fields) words)
+    → ((whole && begins_with (further (get_or fields i Name) (front words)) words)
+    && shaped (by_word (drop (i + 1) fields) (after_field (further (get_or fields i Name) (front words)) words)) (after_field (further (get_or fields i Name) (front words)) words))
+    ≡ (whole && shaped (by_word (drop i fields) words) words)
 shaped_step whole fields words i h =
-    and_assoc whole (begins_with_word words) (shaped (drop (i + 1) fields) (drop 1 words))
-    ∙ ap (λ b. whole && b) (sym (shaped_cons (get_or fields i (Number 0 0)) (drop (i + 1) fields) words)
-    ∙ ap (λ fs. shaped fs words) (sym (drop_more fields i (Number 0 0) h)))
+    let field = get_or fields i Name in
+    let next = further field (front words) in
+    and_assoc whole (begins_with next words) (shaped (by_word (drop (i + 1) fields) (after_field next words)) (after_field next words))
+    ∙ ap (λ b. whole && b) (sym (shaped_field field (drop (i + 1) fields) words next)
+    ∙ ap (λ fs. shaped (by_word fs words) words) (sym (drop_more fields i Name h)))
 
 keep_cons : (rule : ℕ) (field : Field) (fields : List Field) (words : List (List ℕ)) → all_keep rule (field ∷ fields) words ≡ (next_keeps rule field words && all_keep rule fields (drop 1 words))
 keep_cons rule field [] [] = refl
 keep_cons rule field (f ∷ fs) [] = refl
 keep_cons rule field fields (w ∷ ws) = refl
 
+keep_field : (rule : ℕ) (field : Field) (fields : List Field) (words : List (List ℕ)) (next : Option Field)
+    → all_keep rule (field ∷ (listed next ++ by_word fields (drop (1 + length (listed next)) words))) words
+    ≡ (words_keep rule field next words && all_keep rule (by_word fields (after_field next words)) (after_field next words))
+keep_field rule field fields words None = keep_cons rule field (by_word fields (drop 1 words)) words
+keep_field rule field fields words (Some next) =
+    keep_cons rule field (next ∷ by_word fields (drop 2 words)) words
+    ∙ ap (λ b. next_keeps rule field words && b) (keep_cons rule next (by_word fields (drop 2 words)) (drop 1 words)
+    ∙ ap (λ (ws : List (List ℕ)). next_keeps rule next (drop 1 words) && all_keep rule (by_word fields (drop 2 words)) ws) (two_dropped words))
+    ∙ sym (and_assoc (next_keeps rule field words) (next_keeps rule next (drop 1 words)) (all_keep rule (by_word fields (drop 2 words)) (drop 2 words)))
+
 pub keep_step : (kept : Bool) (rule : ℕ) (fields : List Field) (words : List (List ℕ)) (i : ℕ) → i < length fields
-    → ((kept && next_keeps rule (get_or fields i (Number 0 0)) words) && all_keep rule (drop (i + 1) fields) (drop 1 words)) ≡ (kept && all_keep rule (drop i fields) words)
+    → ((kept && words_keep rule (get_or fields i Name) (further (get_or fields i Name) (front words)) words)
+    && all_keep rule (by_word (drop (i + 1) fields) (after_field (further (get_or fields i Name) (front words)) words)) (after_field (further (get_or fields i Name) (front words)) words))
+    ≡ (kept && all_keep rule (by_word (drop i fields) words) words)
 keep_step kept rule fields words i h =
-    and_assoc kept (next_keeps rule (get_or fields i (Number 0 0)) words) (all_keep rule (drop (i + 1) fields) (drop 1 words))
-    ∙ ap (λ b. kept && b) (sym (keep_cons rule (get_or fields i (Number 0 0)) (drop (i + 1) fields) words)
-    ∙ ap (λ fs. all_keep rule fs words) (sym (drop_more fields i (Number 0 0) h)))
+    let field = get_or fields i Name in
+    let next = further field (front words) in
+    and_assoc kept (words_keep rule field next words) (all_keep rule (by_word (drop (i + 1) fields) (after_field next words)) (after_field next words))
+    ∙ ap (λ b. kept && b) (sym (keep_field rule field (drop (i + 1) fields) words next)
+    ∙ ap (λ fs. all_keep rule (by_word fs words) words) (sym (drop_more fields i Name h)))

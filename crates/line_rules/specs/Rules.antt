@@ -1,20 +1,30 @@
 -- The rules of a line, in the order in which they are asked. The lowest that fails is told.
-use Rattle.std.specs.Prelude.{ℕ, ◌+◌, ◌/◌, ◌%◌, List, [], ◌∷◌, Bool, true, false, ◌==◌, ◌&&◌, ◌||◌, not, nat_le, length, drop, if◌then◌else◌, Option, Some, None, codes, is_some}
+use Rattle.std.specs.Prelude.{ℕ, ◌+◌, ◌/◌, ◌%◌, List, [], ◌∷◌, ◌++◌, Bool, true, false, ◌==◌, ◌&&◌, ◌||◌, not, nat_le, length, drop, if◌then◌else◌, Option, Some, None, codes, is_some}
 use Rattle.std.specs.Str.{bytes_eq}
 use Rattle.std.specs.List.{list_all}
-use Rattle.usb_words.specs.Field.{pieces, is_numeral, read_on}
+use Rattle.usb_words.specs.Field.{pieces, is_numeral, read_on, pair_value}
 use Rattle.line_rules.specs.declared.rules.Mode.{Mode}
 use Rattle.line_rules.specs.declared.rules.Mode.TheVariants as mode
 use Rattle.line_rules.specs.declared.rules.Place.{Place}
 use Rattle.line_rules.specs.declared.rules.Place.TheVariants as place
 use Rattle.line_rules.specs.declared.rules.Field.{Field}
-use Rattle.line_rules.specs.declared.rules.Field.TheVariants.{Number, Bytes, Choice}
+use Rattle.line_rules.specs.declared.rules.Field.TheVariants.{Name, Number, DataBits, Endpoint, Bytes, Blocks, Choice, Sent}
 use Rattle.line_rules.specs.declared.rules.Choice.TheVariants as choice
 use Rattle.line_rules.specs.declared.kinds.Kind.{Kind}
 use Rattle.line_rules.specs.declared.kinds.Kind.TheVariants as kind
 use Rattle.line_rules.specs.declared.kinds.HeadKind.{HeadKind}
 use Rattle.line_rules.specs.declared.kinds.HeadKind.TheVariants as head
-use Rattle.line_rules.specs.Kinds.{kind_of, head_kind_of, bad, noack}
+use Rattle.line_rules.specs.declared.kinds.Class.{Class}
+use Rattle.line_rules.specs.declared.kinds.Class.TheVariants as class
+use Rattle.line_rules.specs.declared.kinds.CdcKind.{CdcKind}
+use Rattle.line_rules.specs.declared.kinds.CdcKind.TheVariants as cdc
+use Rattle.line_rules.specs.declared.kinds.HidKind.{HidKind}
+use Rattle.line_rules.specs.declared.kinds.HidKind.TheVariants as hid
+use Rattle.line_rules.specs.declared.kinds.MscKind.{MscKind}
+use Rattle.line_rules.specs.declared.kinds.MscKind.TheVariants as msc
+use Rattle.line_rules.specs.declared.kinds.MidiKind.{MidiKind}
+use Rattle.line_rules.specs.declared.kinds.MidiKind.TheVariants as midi
+use Rattle.line_rules.specs.Kinds.{kind_of, head_kind_of, cdc_kind_of, hid_kind_of, msc_kind_of, midi_kind_of, bad, noack}
 
 -- the most bytes that a line has, without the newline that ends it
 abbrev pub most_line : ℕ
@@ -39,20 +49,72 @@ first_of [] = []
 first_of ([] ∷ rest) = first_of rest
 first_of ((b ∷ bs) ∷ rest) = b ∷ bs
 
-abbrev pub first_word : List ℕ → List ℕ
-first_word line = first_of (pieces line)
+-- what comes after that
+abbrev pub after_first : List (List ℕ) → List (List ℕ)
+after_first [] = []
+after_first ([] ∷ rest) = after_first rest
+after_first ((b ∷ bs) ∷ rest) = rest
 
--- the table of the lines: what the words after a line's name stand for, with the least and the most that
--- a number is, and the fewest and the most bytes that a HEX has
-abbrev pub schedule_row : Kind → List Field
-schedule_row kind.Reset = []
-schedule_row kind.Irq = []
-schedule_row kind.Task = []
-schedule_row kind.State = []
-schedule_row kind.End = []
-schedule_row kind.Setup = Number 0 127 ∷ Bytes 8 8 ∷ Choice choice.Whole ∷ []
-schedule_row kind.Out = Number 0 127 ∷ Number 0 15 ∷ Number 0 1 ∷ Bytes 0 64 ∷ Choice choice.Whole ∷ []
-schedule_row kind.In = Number 0 127 ∷ Number 0 15 ∷ Choice choice.Acknowledged ∷ []
+-- the table of the lines: what the words after a line's first stand for, with the least and the most that
+-- a number is, and the fewest and the most bytes that a HEX has. A further word of the name is a field too.
+-- First the calls of classes, by the word after the class
+abbrev pub cdc_row : CdcKind → List Field
+cdc_row cdc.Write = Name ∷ Bytes 1 1024 ∷ []
+cdc_row cdc.Read = Name ∷ Number 1 1024 ∷ []
+cdc_row cdc.Flush = Name ∷ []
+cdc_row cdc.Avail = Name ∷ []
+cdc_row cdc.Line = Name ∷ []
+cdc_row cdc.Notify = Name ∷ Number 0 65535 ∷ []
+
+abbrev pub hid_row : HidKind → List Field
+hid_row hid.Report = Name ∷ Bytes 1 64 ∷ []
+hid_row hid.Take = Name ∷ []
+hid_row hid.Set = Name ∷ []
+hid_row hid.Idle = Name ∷ []
+
+abbrev pub msc_row : MscKind → List Field
+msc_row msc.Eject = Name ∷ []
+msc_row msc.Insert = Name ∷ []
+msc_row msc.Protect = Name ∷ Number 0 1 ∷ []
+
+abbrev pub midi_row : MidiKind → List Field
+midi_row midi.Send = Name ∷ Bytes 1 1024 ∷ []
+midi_row midi.Recv = Name ∷ Number 1 1024 ∷ []
+midi_row midi.Bytes = Name ∷ Number 1 1024 ∷ []
+
+abbrev pub cdc_row_of : Option CdcKind → Option (List Field)
+cdc_row_of None = None
+cdc_row_of (Some k) = Some (cdc_row k)
+
+abbrev pub hid_row_of : Option HidKind → Option (List Field)
+hid_row_of None = None
+hid_row_of (Some k) = Some (hid_row k)
+
+abbrev pub msc_row_of : Option MscKind → Option (List Field)
+msc_row_of None = None
+msc_row_of (Some k) = Some (msc_row k)
+
+abbrev pub midi_row_of : Option MidiKind → Option (List Field)
+midi_row_of None = None
+midi_row_of (Some k) = Some (midi_row k)
+
+abbrev pub class_row : Class → List ℕ → Option (List Field)
+class_row class.Cdc name = cdc_row_of (cdc_kind_of name)
+class_row class.Hid name = hid_row_of (hid_kind_of name)
+class_row class.Msc name = msc_row_of (msc_kind_of name)
+class_row class.Midi name = midi_row_of (midi_kind_of name)
+
+-- all lines of the schedule, where `next` is the word after the first
+abbrev pub schedule_row : Kind → List ℕ → Option (List Field)
+schedule_row kind.Reset next = Some []
+schedule_row kind.Irq next = Some []
+schedule_row kind.Task next = Some []
+schedule_row kind.State next = Some []
+schedule_row kind.End next = Some []
+schedule_row kind.Setup next = Some (Number 0 127 ∷ Bytes 8 8 ∷ Choice choice.Whole ∷ [])
+schedule_row kind.Out next = Some (Number 0 127 ∷ Number 0 15 ∷ Number 0 1 ∷ Bytes 0 64 ∷ Choice choice.Whole ∷ [])
+schedule_row kind.In next = Some (Number 0 127 ∷ Number 0 15 ∷ Choice choice.Acknowledged ∷ [])
+schedule_row (kind.Class c) next = class_row c next
 
 abbrev pub head_row : HeadKind → List Field
 head_row head.Device = Bytes 1 64 ∷ []
@@ -61,27 +123,27 @@ head_row head.Text = Number 1 255 ∷ Bytes 2 60 ∷ []
 head_row head.Report = Bytes 1 512 ∷ []
 head_row head.Begin = []
 
-abbrev pub schedule_row_of : Option Kind → Option (List Field)
-schedule_row_of None = None
-schedule_row_of (Some k) = Some (schedule_row k)
+abbrev pub schedule_row_of : Option Kind → List ℕ → Option (List Field)
+schedule_row_of None next = None
+schedule_row_of (Some k) next = schedule_row k next
 
 abbrev pub head_row_of : Option HeadKind → Option (List Field)
 head_row_of None = None
 head_row_of (Some k) = Some (head_row k)
 
--- the row that a name has in this mode and place. Jobs of the other modes have no lines yet.
-abbrev pub row_of : Mode → Place → List ℕ → Option (List Field)
-row_of mode.Device place.Head name = head_row_of (head_kind_of name)
-row_of mode.Device place.Schedule name = schedule_row_of (kind_of name)
-row_of mode.Host place.Head name = None
-row_of mode.Host place.Schedule name = None
-row_of mode.Link place.Head name = None
-row_of mode.Link place.Schedule name = None
+-- the row that words have in this mode and place. Jobs of the other modes have no lines yet.
+abbrev pub row_of : Mode → Place → List (List ℕ) → Option (List Field)
+row_of mode.Device place.Head words = head_row_of (head_kind_of (first_of words))
+row_of mode.Device place.Schedule words = schedule_row_of (kind_of (first_of words)) (first_of (after_first words))
+row_of mode.Host place.Head words = None
+row_of mode.Host place.Schedule words = None
+row_of mode.Link place.Head words = None
+row_of mode.Link place.Schedule words = None
 
 abbrev pub row : Mode → Place → List ℕ → Option (List Field)
-row mode place line = row_of mode place (first_word line)
+row mode place line = row_of mode place (pieces line)
 
--- rule 3: its first word is the name of a line of this mode and place
+-- rule 3: its first word, or its first two where a class is named, are the name of a line of this mode and place
 abbrev pub rule_3 : Mode → Place → List ℕ → Bool
 rule_3 mode place line = is_some (row mode place line)
 
@@ -89,23 +151,54 @@ abbrev pub fields_of : Option (List Field) → List Field
 fields_of None = []
 fields_of (Some fields) = fields
 
--- what the words after the name stand for
+-- one of two words
+abbrev pub is_either : List ℕ → List ℕ → List ℕ → Bool
+is_either this that word = bytes_eq word this || bytes_eq word that
+
+-- data, of the one toggle or the other
+abbrev pub is_data : List ℕ → Bool
+is_data word = is_either (codes "data0") (codes "data1") word
+
+-- what a device sends (USB 2.0, 8.3.1)
+abbrev pub is_sent : List ℕ → Bool
+is_sent word = is_either (codes "ack") (codes "nak") word || (is_either (codes "stall") (codes "none") word || is_data word)
+
+abbrev pub front : List (List ℕ) → List ℕ
+front [] = []
+front (word ∷ words) = word
+
+-- what a further word of a field stands for, where it has one: only data that a device sends has bytes
+abbrev pub further : Field → List ℕ → Option Field
+further (Sent least most) word = if is_data word then Some (Bytes least most) else None
+further _ word = None
+
+abbrev pub listed : Option Field → List Field
+listed None = []
+listed (Some field) = field ∷ []
+
+-- what each of these words stands for
+abbrev pub by_word : List Field → List (List ℕ) → List Field
+by_word [] words = []
+by_word (field ∷ fields) words =
+    field ∷ (listed (further field (front words)) ++ by_word fields (drop (1 + length (listed (further field (front words)))) words))
+
+-- the words after the first
+abbrev pub after_name : List (List ℕ) → List (List ℕ)
+after_name words = drop 1 words
+
+-- what each word after the first stands for
 abbrev pub fields : Mode → Place → List ℕ → List Field
-fields mode place line = fields_of (row mode place line)
+fields mode place line = by_word (fields_of (row mode place line)) (after_name (pieces line))
 
 abbrev pub is_empty : List ℕ → Bool
 is_empty [] = true
 is_empty (b ∷ bs) = false
 
-abbrev pub begins_with_word : List (List ℕ) → Bool
-begins_with_word [] = false
-begins_with_word (word ∷ words) = not (is_empty word)
-
--- a word for the name and one for each field, and nothing empty between two spaces or at an end
+-- the first word and one for each field, and nothing empty between two spaces or at an end
 abbrev pub has_words : List Field → List (List ℕ) → Bool
 has_words fields words = (length words == 1 + length fields) && list_all (λ word. not (is_empty word)) words
 
--- rule 4: after the name it has a word for each field, and no two spaces meet or stand at an end
+-- rule 4: after the first word it has one for each field, and no two spaces meet or stand at an end
 abbrev pub rule_4 : Mode → Place → List ℕ → Bool
 rule_4 mode place line = has_words (fields mode place line) (pieces line)
 
@@ -113,9 +206,25 @@ rule_4 mode place line = has_words (fields mode place line) (pieces line)
 abbrev pub is_number : ℕ → ℕ → List ℕ → Bool
 is_number least most word = is_numeral word && (nat_le least (read_on 0 word) && nat_le (read_on 0 word) most)
 
+-- one of the numbers of bits that a character may have (CDC PSTN 1.2, 6.3.11)
+abbrev pub is_data_bits : List ℕ → Bool
+is_data_bits word = is_number 5 8 word || is_number 16 16 word
+
 -- a hexadecimal digit in lower case
 abbrev pub is_hex_digit : ℕ → Bool
 is_hex_digit c = (nat_le 48 c && nat_le c 57) || (nat_le 97 c && nat_le c 102)
+
+-- the address of an endpoint, whose bits 6 to 4 are zero (USB 2.0, 9.6.6)
+abbrev pub is_address : Option ℕ → Bool
+is_address None = false
+is_address (Some address) = address / 16 % 8 == 0
+
+-- that address in two digits
+abbrev pub is_endpoint : List ℕ → Bool
+is_endpoint [] = false
+is_endpoint (c ∷ []) = false
+is_endpoint (c ∷ d ∷ []) = is_address (pair_value c d)
+is_endpoint (c ∷ d ∷ e ∷ word) = false
 
 -- pairs of hexadecimal digits
 abbrev pub is_pairs : List ℕ → Bool
@@ -127,30 +236,30 @@ is_bytes least most word =
     if bytes_eq word (codes "-") then least == 0
     else (not (is_empty word) && (is_pairs word && (nat_le least (length word / 2) && nat_le (length word / 2) most)))
 
--- one of two words
-abbrev pub is_either : List ℕ → List ℕ → List ℕ → Bool
-is_either this that word = bytes_eq word this || bytes_eq word that
+-- the bytes of a block of a disk
+abbrev pub block : ℕ
+block = 512
+
+-- the same with whole blocks of bytes
+abbrev pub is_blocks : ℕ → ℕ → List ℕ → Bool
+is_blocks least most word = is_bytes least most word && (length word / 2 % block == 0)
 
 -- what a rule asks of one word: the fifth of a number, the sixth of a HEX, the seventh of a choice
 abbrev pub keeps : ℕ → Field → List ℕ → Bool
+keeps rule Name word = true
 keeps rule (Number least most) word = not (rule == 5) || is_number least most word
+keeps rule DataBits word = not (rule == 5) || is_data_bits word
+keeps rule Endpoint word = not (rule == 5) || is_endpoint word
 keeps rule (Bytes least most) word = not (rule == 6) || is_bytes least most word
+keeps rule (Blocks least most) word = not (rule == 6) || is_blocks least most word
 keeps rule (Choice choice.Whole) word = not (rule == 7) || is_either (codes "ok") bad word
 keeps rule (Choice choice.Acknowledged) word = not (rule == 7) || is_either (codes "ok") noack word
-
--- the same of the next word, where one is left
-abbrev pub next_keeps : ℕ → Field → List (List ℕ) → Bool
-next_keeps rule field [] = true
-next_keeps rule field (word ∷ words) = keeps rule field word
+keeps rule (Sent least most) word = not (rule == 7) || is_sent word
 
 abbrev pub all_keep : ℕ → List Field → List (List ℕ) → Bool
 all_keep rule [] words = true
 all_keep rule (field ∷ fields) [] = true
 all_keep rule (field ∷ fields) (word ∷ words) = keeps rule field word && all_keep rule fields words
-
--- the words after the name
-abbrev pub after_name : List (List ℕ) → List (List ℕ)
-after_name words = drop 1 words
 
 -- rule 5: each number is decimal without leading zeros, and in its field's range
 abbrev pub rule_5 : Mode → Place → List ℕ → Bool
@@ -167,6 +276,14 @@ rule_7 mode place line = all_keep 7 (fields mode place line) (after_name (pieces
 -- a rule that fails comes before the later ones
 abbrev pub unless : Bool → ℕ → Option ℕ → Option ℕ
 unless holds rule later = if holds then later else Some rule
+
+-- the lowest of the rules 4 to 7 that a line's words break, where those after the first stand for these fields
+abbrev pub lowest_of : List Field → List (List ℕ) → Option ℕ
+lowest_of fields words =
+    unless (has_words fields words) 4 (
+    unless (all_keep 5 fields (after_name words)) 5 (
+    unless (all_keep 6 fields (after_name words)) 6 (
+    unless (all_keep 7 fields (after_name words)) 7 None)))
 
 -- the lowest rule that a line breaks
 abbrev pub lowest : Mode → Place → List ℕ → Option ℕ

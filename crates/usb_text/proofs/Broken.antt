@@ -1,97 +1,37 @@
 -- A line that keeps all rules is read.
-use Rattle.std.proofs.Common.{◌≡◌, ℕ, zero, suc, ◌+◌, ◌-◌, ◌*◌, ◌/◌, ◌%◌, ◌≤◌, List, [], ◌∷◌, Bool, true, false, not, ◌&&◌, ◌||◌, eqb, leb, cond, length, Option, Some, None, refl, ◌∙◌, arith, codes, le-leb, is_some}
-use Rattle.std.specs.List.{list_all}
+use Rattle.std.proofs.Common.{◌≡◌, ℕ, zero, suc, ◌-◌, ◌≤◌, List, [], ◌∷◌, Bool, true, false, ◌&&◌, eqb, length, Option, Some, None, refl, ap, ◌∙◌, arith, codes, le-leb}
 use Rattle.std.specs.Str.{bytes_eq}
 use Rattle.std.specs.Fmt.{decimal}
 use Rattle.std.proofs.lemmas.Fmt.{decimal_digit}
-use Rattle.std.proofs.lemmas.Bool.{leb-true}
 use Rattle.std.proofs.lemmas.Bool.Decides.{nat_tests}
 use Rattle.usb_packet.specs.declared.bus.Toggle.{Toggle}
 use Rattle.usb_packet.specs.declared.bus.Toggle.TheVariants.{D0, D1}
 use Rattle.usb_packet.specs.declared.bus.BusEvent.TheVariants as event
-use Rattle.usb_words.specs.Field.{pieces, is_numeral, read_on, number_of, digit_value, pair_value, bytes_of_pairs, with_byte, bytes_in, exactly, fate_of}
+use Rattle.usb_words.specs.Field.{pieces, bytes_in, exactly, fate_of, one, bytes_word}
 use Rattle.usb_words.proofs.Decimal.{and_true, number_only}
 use Rattle.line_rules.specs.declared.kinds.Kind.{Kind}
 use Rattle.line_rules.specs.declared.kinds.Kind.TheVariants as kind
 use Rattle.line_rules.specs.declared.kinds.HeadKind.{HeadKind}
 use Rattle.line_rules.specs.declared.kinds.HeadKind.TheVariants as head_kind
-use Rattle.line_rules.specs.declared.rules.Field.{Field}
 use Rattle.line_rules.specs.declared.rules.Field.TheVariants.{Bytes}
 use Rattle.line_rules.specs.declared.rules.Mode.TheVariants as mode
 use Rattle.line_rules.specs.declared.rules.Place.TheVariants as place
 use Rattle.line_rules.specs.Kinds.{kind_of, head_kind_of, bad, noack}
-use Rattle.line_rules.specs.Rules.{rule_1, rule_2, has_words, after_name, first_of, schedule_row, head_row, schedule_row_of, head_row_of, fields_of, is_empty, is_number, is_hex_digit, is_pairs, is_bytes, is_either, all_keep, unless, lowest}
+use Rattle.line_rules.specs.Rules.{first_of, after_first, schedule_row, head_row, schedule_row_of, head_row_of, fields_of, is_number, is_either, lowest}
 use Rattle.line_rules.proofs.Judged.{lowest_in}
+use Rattle.line_rules.proofs.Found.{Keeps, kept_of, after, no_name, either_some, number_found, bytes_found}
 use Rattle.device_line.specs.declared.line.DevLine.TheVariants.{Bus, Irq, Task, Call}
 use Rattle.device_line.specs.declared.call.DevCall.TheVariants as call
+use Rattle.call_text.proofs.Found.{class_found}
 use Rattle.usb_text.specs.Scheduled.{Scheduled}
 use Rattle.usb_text.specs.Scheduled.{Device, End}
 use Rattle.usb_text.specs.declared.head.HeadLine.{HeadLine}
 use Rattle.usb_text.specs.declared.head.HeadLine.TheVariants as head
 use Rattle.usb_text.specs.Line.{schedule_text_of, IsScheduled}
-use Rattle.usb_text.specs.Reading.{three, five, toggle_of, setup_words, out_words, in_words, alone, fields_line, words_line, line_of}
-use Rattle.usb_text.specs.Head.{head_text, IsHead, one, two, bytes_word, text_words, head_fields, head_words_line, head_of}
+use Rattle.usb_text.specs.Reading.{three, five, toggle_of, setup_words, out_words, in_words, alone, of_call, fields_line, words_line, line_of}
+use Rattle.usb_text.specs.Head.{head_text, IsHead, two, text_words, head_fields, head_words_line, head_of}
 use Rattle.usb_text.proofs.Read.{line_only}
 use Rattle.usb_text.proofs.Heads.{head_only}
-
--- one of two tests chose a value
-either_some : {A : Type 0} (a b : Bool) (x y : A) → (a || b) ≡ true → (z : A) × (cond a (Some x) (cond b (Some y) None) ≡ Some z)
-either_some true b x y h = (x, refl)
-either_some false true x y h = (y, refl)
-either_some false false x y h = absurd (cc)
-
-number_found : (least most : ℕ) (word : List ℕ) → is_number least most word ≡ true → (n : ℕ) × (number_of most word ≡ Some n) × (least ≤ n) × (n ≤ most)
-number_found least most word h =
-    let a = and_true (is_numeral word) (leb least (read_on 0 word) && leb (read_on 0 word) most) h in
-    let b = and_true (leb least (read_on 0 word)) (leb (read_on 0 word) most) a.1 in
-    (read_on 0 word, rw (a.0, b.1) refl, leb-true _ _ b.0, leb-true _ _ b.1)
-
-digit_found : (c : ℕ) → is_hex_digit c ≡ true → (n : ℕ) × (digit_value c ≡ Some n)
-digit_found c h = either_some (leb 48 c && leb c 57) (leb 97 c && leb c 102) (c - 48) (c - 87) h
-
-pair_joined : (c d x y : ℕ) (r : Option (List ℕ)) (bytes : List ℕ) → digit_value c ≡ Some x → digit_value d ≡ Some y → r ≡ Some bytes
-    → with_byte (pair_value c d) r ≡ Some ((16 * x + y) ∷ bytes)
-pair_joined c d x y r bytes ex ey er = rw (ex, ey, er) refl
-
-pairs_found : (word : List ℕ) → list_all is_hex_digit word ≡ true → length word % 2 ≡ 0
-    → (bytes : List ℕ) × (bytes_of_pairs word ≡ Some bytes) × (2 * length bytes ≡ length word)
-pairs_found [] h even = ([], refl, refl)
-pairs_found (c ∷ []) h even = absurd (omega (arith, even))
-pairs_found (c ∷ d ∷ cs) h even =
-    let a = and_true _ _ h in
-    let b = and_true _ _ a.1 in
-    let x = digit_found c a.0 in
-    let y = digit_found d b.0 in
-    let rest = pairs_found cs b.1 (omega (arith, even)) in
-    ((16 * x.0 + y.0) ∷ rest.0, pair_joined c d x.0 y.0 (bytes_of_pairs cs) rest.0 x.1 y.1 rest.1, omega (arith, rest.2))
-
-even_length : (n : ℕ) → eqb (n % 2) 0 ≡ true → n % 2 ≡ 0
-even_length n h = grind (arith, nat_tests)
-
-zero_only : (n : ℕ) → eqb n 0 ≡ true → n ≤ 0
-zero_only n h = grind (arith, nat_tests)
-
--- what a HEX gives
-abbrev Found : ℕ → ℕ → List ℕ → Type 0
-Found least most word = (bytes : List ℕ) × (bytes_in most word ≡ Some bytes) × (least ≤ length bytes) × (length bytes ≤ most)
-
-dash_or_found : (t : Bool) (least most c : ℕ) (cs : List ℕ) → bytes_eq (c ∷ cs) (codes "-") ≡ t
-    → cond t (eqb least 0) (not (is_empty (c ∷ cs)) && (is_pairs (c ∷ cs) && (leb least (length (c ∷ cs) / 2) && leb (length (c ∷ cs) / 2) most))) ≡ true
-    → Found least most (c ∷ cs)
-dash_or_found true least most c cs e h = ([], rw e refl, zero_only least h, omega arith)
-dash_or_found false least most c cs e h =
-    let a = and_true _ _ h in
-    let b = and_true _ _ a.0 in
-    let d = and_true _ _ a.1 in
-    let p = pairs_found (c ∷ cs) b.0 (even_length (length (c ∷ cs)) b.1) in
-    let low : least ≤ length (c ∷ cs) / 2 = leb-true _ _ d.0 in
-    let high : length (c ∷ cs) / 2 ≤ most = leb-true _ _ d.1 in
-    let few : length p.0 ≤ most = omega (arith, p.2) in
-    (p.0, rw (e, p.1, le-leb (length p.0) most few) refl, omega (arith, p.2), few)
-
-bytes_found : (least most : ℕ) (word : List ℕ) → is_bytes least most word ≡ true → Found least most word
-bytes_found least most [] h = absurd (cc)
-bytes_found least most (c ∷ cs) h = dash_or_found (bytes_eq (c ∷ cs) (codes "-")) least most c cs refl h
 
 eight_found : (word bytes : List ℕ) → bytes_in 8 word ≡ Some bytes → 8 ≤ length bytes → length bytes ≤ 8 → exactly 8 (bytes_in 8 word) ≡ Some bytes
 eight_found word bytes e low high = let eight : eqb (length bytes) 8 ≡ true = grind (arith, nat_tests) in rw (e, eight) refl
@@ -109,46 +49,11 @@ toggle_found word h =
     let n = number_found 0 1 word h in
     zero_or_one word n.0 n.3 (number_only word n.0 1 (omega arith) n.1).0
 
--- the rules that were asked
-unless_none : (holds : Bool) (rule : ℕ) (later : Option ℕ) → unless holds rule later ≡ None → (holds ≡ true) × (later ≡ None)
-unless_none true rule later h = (refl, h)
-unless_none false rule later h = absurd (cc)
-
-record Keeps (row : Option (List Field)) (words : List (List ℕ)) : Type 0 where
-  named : is_some row ≡ true
-  shaped : has_words (fields_of row) words ≡ true
-  numbers : all_keep 5 (fields_of row) (after_name words) ≡ true
-  bytes : all_keep 6 (fields_of row) (after_name words) ≡ true
-  choices : all_keep 7 (fields_of row) (after_name words) ≡ true
-
-kept_of : (line : List ℕ) (row : Option (List Field)) (words : List (List ℕ)) → lowest_in line row words ≡ None → Keeps row words
-kept_of line row words h =
-    let a = unless_none (rule_1 line) 1 _ h in
-    let b = unless_none (rule_2 line) 2 _ a.1 in
-    let c = unless_none (is_some row) 3 _ b.1 in
-    let d = unless_none (has_words (fields_of row) words) 4 _ c.1 in
-    let e = unless_none (all_keep 5 (fields_of row) (after_name words)) 5 _ d.1 in
-    let f = unless_none (all_keep 6 (fields_of row) (after_name words)) 6 _ e.1 in
-    let g = unless_none (all_keep 7 (fields_of row) (after_name words)) 7 _ f.1 in
-    record { named = c.0; shaped = d.0; numbers = e.0; bytes = f.0; choices = g.0 }
-
-eq_of : (m n : ℕ) → eqb m n ≡ true → m ≡ n
-eq_of m n h = grind (arith, nat_tests)
-
-counted : (fields : List Field) (words : List (List ℕ)) → has_words fields words ≡ true → length words ≡ 1 + length fields
-counted fields words h =
-    let a = and_true (eqb (length words) (1 + length fields)) (list_all (λ word. not (is_empty word)) words) h in
-    eq_of (length words) (1 + length fields) a.0
-
--- the words after the name are as many as the fields
-after : (fields : List Field) (name : List ℕ) (words : List (List ℕ)) → Keeps (Some fields) (name ∷ words) → length words ≡ length fields
-after fields name words k = let e = counted fields (name ∷ words) k.shaped in omega (arith, e)
-
 alone_found : (line : Scheduled) (words : List (List ℕ)) → length words ≡ 0 → (v : Scheduled) × (alone words line ≡ Some v)
 alone_found line [] e = (line, refl)
 alone_found line (w ∷ ws) e = absurd (omega (arith, e))
 
-setup_found : (name : List ℕ) (words : List (List ℕ)) → Keeps (Some (schedule_row kind.Setup)) (name ∷ words) → length words ≡ 3
+setup_found : (name : List ℕ) (words : List (List ℕ)) → Keeps (schedule_row kind.Setup []) (name ∷ words) → length words ≡ 3
     → (v : Scheduled) × (setup_words (three words) ≡ Some v)
 setup_found name [] k e = absurd (omega (arith, e))
 setup_found name (a ∷ []) k e = absurd (omega (arith, e))
@@ -160,7 +65,7 @@ setup_found name (a ∷ b ∷ c ∷ []) k e =
     (Device (Bus (event.Setup n.0 h.0 f.0)), rw (n.1, eight_found b h.0 h.1 h.2 h.3, f.1) refl)
 setup_found name (a ∷ b ∷ c ∷ d ∷ ds) k e = absurd (omega (arith, e))
 
-out_found : (name : List ℕ) (words : List (List ℕ)) → Keeps (Some (schedule_row kind.Out)) (name ∷ words) → length words ≡ 5
+out_found : (name : List ℕ) (words : List (List ℕ)) → Keeps (schedule_row kind.Out []) (name ∷ words) → length words ≡ 5
     → (v : Scheduled) × (out_words (five words) ≡ Some v)
 out_found name [] k e = absurd (omega (arith, e))
 out_found name (a ∷ []) k e = absurd (omega (arith, e))
@@ -179,7 +84,7 @@ out_found name (a ∷ b ∷ c ∷ d ∷ f ∷ []) k e =
     (Device (Bus (event.Out m.0 n.0 t.0 h.0 g.0)), rw (m.1, n.1, t.1, h.1, g.1) refl)
 out_found name (a ∷ b ∷ c ∷ d ∷ f ∷ g ∷ gs) k e = absurd (omega (arith, e))
 
-in_found : (name : List ℕ) (words : List (List ℕ)) → Keeps (Some (schedule_row kind.In)) (name ∷ words) → length words ≡ 3
+in_found : (name : List ℕ) (words : List (List ℕ)) → Keeps (schedule_row kind.In []) (name ∷ words) → length words ≡ 3
     → (v : Scheduled) × (in_words (three words) ≡ Some v)
 in_found name [] k e = absurd (omega (arith, e))
 in_found name (a ∷ []) k e = absurd (omega (arith, e))
@@ -192,22 +97,20 @@ in_found name (a ∷ b ∷ c ∷ []) k e =
     (Device (Bus (event.In m.0 n.0 g.0)), rw (m.1, n.1, g.1) refl)
 in_found name (a ∷ b ∷ c ∷ d ∷ ds) k e = absurd (omega (arith, e))
 
-kind_found : (name : List ℕ) (words : List (List ℕ)) (k : Option Kind) → Keeps (schedule_row_of k) (name ∷ words) → (v : Scheduled) × (fields_line k words ≡ Some v)
+kind_found : (name : List ℕ) (words : List (List ℕ)) (k : Option Kind) → Keeps (schedule_row_of k (first_of words)) (name ∷ words) → (v : Scheduled) × (fields_line k words ≡ Some v)
 kind_found name words None k = let e = k.named in absurd (cc)
 kind_found name words (Some kind.Reset) k = alone_found (Device (Bus event.Reset)) words (after [] name words k)
 kind_found name words (Some kind.Irq) k = alone_found (Device Irq) words (after [] name words k)
 kind_found name words (Some kind.Task) k = alone_found (Device Task) words (after [] name words k)
 kind_found name words (Some kind.State) k = alone_found (Device (Call call.State)) words (after [] name words k)
 kind_found name words (Some kind.End) k = alone_found End words (after [] name words k)
-kind_found name words (Some kind.Setup) k = setup_found name words k (after (schedule_row kind.Setup) name words k)
-kind_found name words (Some kind.Out) k = out_found name words k (after (schedule_row kind.Out) name words k)
-kind_found name words (Some kind.In) k = in_found name words k (after (schedule_row kind.In) name words k)
+kind_found name words (Some kind.Setup) k = setup_found name words k (after (fields_of (schedule_row kind.Setup [])) name words k)
+kind_found name words (Some kind.Out) k = out_found name words k (after (fields_of (schedule_row kind.Out [])) name words k)
+kind_found name words (Some kind.In) k = in_found name words k (after (fields_of (schedule_row kind.In [])) name words k)
+kind_found name words (Some (kind.Class c)) k = let f = class_found c name words k in (Device (Call f.0), ap of_call f.1)
 
-no_name : (row : Option (List Field)) (words : List (List ℕ)) → Keeps row ([] ∷ words) → ⊥
-no_name row words k = let a = and_true (eqb (length ([] ∷ words)) (1 + length (fields_of row))) (list_all (λ word. not (is_empty word)) ([] ∷ words)) k.shaped in let e = a.1 in cc
-
-schedule_found : (line : List ℕ) (words : List (List ℕ)) → lowest_in line (schedule_row_of (kind_of (first_of words))) words ≡ None → (v : Scheduled) × (words_line words ≡ Some v)
-schedule_found line [] h = let k = kept_of line (schedule_row_of (kind_of [])) [] h in let e = k.named in absurd (cc)
+schedule_found : (line : List ℕ) (words : List (List ℕ)) → lowest_in line (schedule_row_of (kind_of (first_of words)) (first_of (after_first words))) words ≡ None → (v : Scheduled) × (words_line words ≡ Some v)
+schedule_found line [] h = let k = kept_of line (schedule_row_of (kind_of []) []) [] h in let e = k.named in absurd (cc)
 schedule_found line ([] ∷ words) h = absurd (no_name _ words (kept_of line _ ([] ∷ words) h))
 schedule_found line ((b ∷ bs) ∷ words) h = kind_found (b ∷ bs) words (kind_of (b ∷ bs)) (kept_of line _ ((b ∷ bs) ∷ words) h)
 

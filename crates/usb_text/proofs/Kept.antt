@@ -1,26 +1,29 @@
 -- The text of a line keeps all rules.
-use Rattle.std.proofs.Common.{◌≡◌, ℕ, ◌*◌, ◌/◌, ◌%◌, ◌^◌, ◌≤◌, ◌<◌, List, [], ◌∷◌, Bool, true, false, eqb, length, Some, None, refl, ap, ◌∙◌, arith, codes, le-leb}
-use Rattle.std.specs.List.{list_all, flat_map}
-use Rattle.std.specs.Str.{bytes_eq}
+use Rattle.std.proofs.Common.{◌≡◌, ℕ, ◌^◌, ◌≤◌, ◌<◌, List, [], ◌∷◌, Bool, true, false, length, Some, None, refl, ap, sym, ◌∙◌, arith, codes, le-leb, subst}
+use Rattle.std.specs.List.{list_all}
 use Rattle.std.specs.Fmt.{decimal}
-use Rattle.std.proofs.lemmas.Fmt.{decimal_nonempty}
 use Rattle.std.proofs.lemmas.List.Folds.{list_all-append}
 use Rattle.std.proofs.lemmas.Bool.Decides.{nat_tests}
 use Rattle.usb_packet.specs.declared.bus.Toggle.{Toggle}
 use Rattle.usb_packet.specs.declared.bus.Toggle.TheVariants.{D0, D1}
 use Rattle.usb_packet.specs.declared.bus.BusEvent.TheVariants as event
-use Rattle.usb_words.specs.Field.{AreBytes, HasBytes, space, pieces, spaced, hex, hex_digit, hex_pair}
-use Rattle.usb_words.proofs.Hex.{is_seen, is_word, two_no_dash}
-use Rattle.usb_words.proofs.Decimal.{and_true, numeral_again, value_again}
+use Rattle.usb_words.specs.Field.{HasBytes, space, pieces, spaced, hex}
+use Rattle.usb_words.proofs.Hex.{is_seen, is_word}
+use Rattle.usb_words.proofs.Decimal.{and_true}
 use Rattle.usb_words.proofs.Spaced.{pieces-spaced}
+use Rattle.line_rules.specs.declared.kinds.Class.TheVariants as class
 use Rattle.line_rules.specs.declared.rules.Field.TheVariants.{Bytes}
 use Rattle.line_rules.specs.declared.rules.Mode.TheVariants as mode
 use Rattle.line_rules.specs.declared.rules.Place.TheVariants as place
 use Rattle.line_rules.specs.Kinds.{kind_of, head_kind_of, bad, noack}
-use Rattle.line_rules.specs.Rules.{rule_1, rule_2, is_printable, first_of, schedule_row_of, head_row_of, is_empty, is_number, is_hex_digit, is_bytes, is_either, lowest}
+use Rattle.line_rules.specs.Rules.{rule_1, rule_2, is_printable, first_of, after_first, class_row, schedule_row_of, head_row_of, is_empty, is_number, is_either, lowest}
 use Rattle.line_rules.proofs.Judged.{lowest_in}
+use Rattle.line_rules.proofs.Kept.{decimal_is_no_empty, hex_is_no_empty, number_kept, bytes_kept}
 use Rattle.device_line.specs.declared.line.DevLine.TheVariants.{Bus, Irq, Task, Call}
 use Rattle.device_line.specs.declared.call.DevCall.TheVariants as call
+use Rattle.call_text.specs.Call.{cdc_words, hid_words, msc_words, midi_words}
+use Rattle.call_text.proofs.Printed.{tail, cdc_begins, hid_begins, msc_begins, midi_begins, cdc_words_are_words, hid_words_are_words, msc_words_are_words, midi_words_are_words, cdc_is_short, hid_is_short, msc_is_short, midi_is_short}
+use Rattle.call_text.proofs.Kept.{cdc_kept, hid_kept, msc_kept, midi_kept}
 use Rattle.usb_text.specs.Scheduled.{Scheduled}
 use Rattle.usb_text.specs.Scheduled.{Device, End}
 use Rattle.usb_text.specs.declared.head.HeadLine.{HeadLine}
@@ -31,7 +34,7 @@ use Rattle.usb_text.specs.Reading.{line_of}
 use Rattle.usb_text.proofs.Printed.{schedule_words_are_words}
 use Rattle.usb_text.proofs.Heads.{head_words_are_words, head_only}
 use Rattle.usb_text.proofs.Read.{line_only}
-use Rattle.usb_text.proofs.Plain.{schedule_is_short, head_is_short, length-pairs}
+use Rattle.usb_text.proofs.Plain.{schedule_is_short, head_is_short}
 
 seen_is_printable : (b : ℕ) → is_seen b ≡ true → is_printable b ≡ true
 seen_is_printable b h = grind (arith, nat_tests)
@@ -46,17 +49,6 @@ spaced_is_printable (word ∷ []) h = word_is_printable word (and_true _ _ h).0
 spaced_is_printable (word ∷ next ∷ words) h =
     let parts = and_true _ _ h in
     rw (list_all-append is_printable word (space ∷ spaced (next ∷ words)), word_is_printable word parts.0) (spaced_is_printable (next ∷ words) parts.1)
-
-some_is_no_empty : (word : List ℕ) → 0 < length word → is_empty word ≡ false
-some_is_no_empty [] h = absurd (omega arith)
-some_is_no_empty (b ∷ bs) h = refl
-
-decimal_is_no_empty : (n : ℕ) → n < 2 ^ 64 → is_empty (decimal n) ≡ false
-decimal_is_no_empty n h = some_is_no_empty (decimal n) (decimal_nonempty n h)
-
-hex_is_no_empty : (bytes : List ℕ) → is_empty (hex bytes) ≡ false
-hex_is_no_empty [] = refl
-hex_is_no_empty (b ∷ bs) = refl
 
 bad_is_no_empty : (ok : Bool) → is_empty (fate_text bad ok) ≡ false
 bad_is_no_empty true = refl
@@ -82,46 +74,13 @@ toggle_kept : (toggle : Toggle) → is_number 0 1 (toggle_text toggle) ≡ true
 toggle_kept D0 = refl
 toggle_kept D1 = refl
 
-number_kept : (least most n : ℕ) → least ≤ n → n ≤ most → n < 2 ^ 64 → is_number least most (decimal n) ≡ true
-number_kept least most n low high fits = rw (numeral_again n fits, value_again n fits, le-leb least n low, le-leb n most high) refl
-
-digit_kept : (n : ℕ) → n < 16 → is_hex_digit (hex_digit n) ≡ true
-digit_kept n h = grind (arith, nat_tests)
-
-digits_kept : (bytes : List ℕ) → AreBytes bytes → list_all is_hex_digit (flat_map hex_pair bytes) ≡ true
-digits_kept [] h = refl
-digits_kept (b ∷ bs) h =
-    let high : b / 16 < 16 = omega (arith, h.0) in
-    let low : b % 16 < 16 = omega arith in
-    rw (digit_kept (b / 16) high, digit_kept (b % 16) low, digits_kept bs h.1) refl
-
-even_test : (n m : ℕ) → n ≡ 2 * m → eqb (n % 2) 0 ≡ true
-even_test n m e = let r : n % 2 ≡ 0 = omega arith in rw r refl
-
-half : (n m : ℕ) → n ≡ 2 * m → n / 2 ≡ m
-half n m e = omega arith
-
-zero_test : (n : ℕ) → n ≤ 0 → eqb n 0 ≡ true
-zero_test n h = grind (arith, nat_tests)
-
-pairs_kept : (least most : ℕ) (word : List ℕ) (m : ℕ) → length word ≡ 2 * m → bytes_eq word (codes "-") ≡ false → is_empty word ≡ false
-    → list_all is_hex_digit word ≡ true → least ≤ m → m ≤ most → is_bytes least most word ≡ true
-pairs_kept least most word m len dash some digits low high =
-    rw (dash, some, digits, even_test (length word) m len, half (length word) m len, le-leb least m low, le-leb m most high) refl
-
-bytes_kept : (least most : ℕ) (bytes : List ℕ) → HasBytes least most bytes → is_bytes least most (hex bytes) ≡ true
-bytes_kept least most [] h = zero_test least h.0
-bytes_kept least most (b ∷ bs) h =
-    pairs_kept least most (hex (b ∷ bs)) (length (b ∷ bs)) (length-pairs (b ∷ bs))
-    (two_no_dash (hex_digit (b / 16)) (hex_digit (b % 16)) (flat_map hex_pair bs)) refl (digits_kept (b ∷ bs) h.2) h.0 h.1
-
 line_pieces : (word : List ℕ) (words : List (List ℕ)) → list_all is_word (word ∷ words) ≡ true → pieces (spaced (word ∷ words)) ≡ word ∷ words
 line_pieces word words h = let parts = and_true _ _ h in pieces-spaced word words parts.0 parts.1
 
 -- a line that is short and printable is judged by its words
 schedule_words : (line : List ℕ) (word : List ℕ) (words : List (List ℕ)) → list_all is_word (word ∷ words) ≡ true → line ≡ spaced (word ∷ words)
-    → lowest mode.Device place.Schedule line ≡ lowest_in line (schedule_row_of (kind_of (first_of (word ∷ words)))) (word ∷ words)
-schedule_words line word words h e = ap (λ p. lowest_in line (schedule_row_of (kind_of (first_of p))) p) (ap pieces e ∙ line_pieces word words h)
+    → lowest mode.Device place.Schedule line ≡ lowest_in line (schedule_row_of (kind_of (first_of (word ∷ words))) (first_of (after_first (word ∷ words)))) (word ∷ words)
+schedule_words line word words h e = ap (λ p. lowest_in line (schedule_row_of (kind_of (first_of p)) (first_of (after_first p))) p) (ap pieces e ∙ line_pieces word words h)
 
 head_judged : (line : List ℕ) (word : List ℕ) (words : List (List ℕ)) → list_all is_word (word ∷ words) ≡ true → line ≡ spaced (word ∷ words)
     → lowest mode.Device place.Head line ≡ lowest_in line (head_row_of (head_kind_of (first_of (word ∷ words)))) (word ∷ words)
@@ -134,7 +93,7 @@ small : (n most : ℕ) → n ≤ most → most < 2 ^ 64 → n < 2 ^ 64
 small n most h k = omega arith
 
 setup_kept : (line : List ℕ) (addr : ℕ) (bytes : List ℕ) (ok : Bool) → rule_1 line ≡ true → rule_2 line ≡ true → IsScheduled (Device (Bus (event.Setup addr bytes ok)))
-    → lowest_in line (schedule_row_of (kind_of (codes "setup"))) (schedule_words_of (Device (Bus (event.Setup addr bytes ok)))) ≡ None
+    → lowest_in line (schedule_row_of (kind_of (codes "setup")) []) (schedule_words_of (Device (Bus (event.Setup addr bytes ok)))) ≡ None
 setup_kept line addr bytes ok short seen h =
     let eight : HasBytes 8 8 bytes = (omega (arith, h.1), omega (arith, h.1), h.2) in
     rw (
@@ -149,7 +108,7 @@ setup_kept line addr bytes ok short seen h =
     ) refl
 
 out_kept : (line : List ℕ) (addr ep : ℕ) (toggle : Toggle) (bytes : List ℕ) (ok : Bool) → rule_1 line ≡ true → rule_2 line ≡ true → IsScheduled (Device (Bus (event.Out addr ep toggle bytes ok)))
-    → lowest_in line (schedule_row_of (kind_of (codes "out"))) (schedule_words_of (Device (Bus (event.Out addr ep toggle bytes ok)))) ≡ None
+    → lowest_in line (schedule_row_of (kind_of (codes "out")) []) (schedule_words_of (Device (Bus (event.Out addr ep toggle bytes ok)))) ≡ None
 out_kept line addr ep toggle bytes ok short seen h =
     let few : HasBytes 0 64 bytes = (omega arith, h.2, h.3) in
     rw (
@@ -168,7 +127,7 @@ out_kept line addr ep toggle bytes ok short seen h =
     ) refl
 
 in_kept : (line : List ℕ) (addr ep : ℕ) (ok : Bool) → rule_1 line ≡ true → rule_2 line ≡ true → IsScheduled (Device (Bus (event.In addr ep ok)))
-    → lowest_in line (schedule_row_of (kind_of (codes "in"))) (schedule_words_of (Device (Bus (event.In addr ep ok)))) ≡ None
+    → lowest_in line (schedule_row_of (kind_of (codes "in")) []) (schedule_words_of (Device (Bus (event.In addr ep ok)))) ≡ None
 in_kept line addr ep ok short seen h =
     rw (
       short,
@@ -198,10 +157,30 @@ text_keeps (Device (Bus (event.In addr ep ok))) h =
 text_keeps (Device Irq) h = refl
 text_keeps (Device Task) h = refl
 text_keeps (Device (Call call.State)) h = refl
-text_keeps (Device (Call (call.Cdc c))) h = absurd h.0
-text_keeps (Device (Call (call.Hid c))) h = absurd h.0
-text_keeps (Device (Call (call.Msc c))) h = absurd h.0
-text_keeps (Device (Call (call.Midi c))) h = absurd h.0
+text_keeps (Device (Call (call.Cdc c))) h =
+    let v : Scheduled = Device (Call (call.Cdc c)) in
+    let words : list_all is_word (cdc_words c) ≡ true = cdc_words_are_words c h in
+    schedule_words (schedule_text_of v) (codes "cdc") (tail (cdc_words c)) (subst (λ (ws : List (List ℕ)). list_all is_word ws ≡ true) (cdc_begins c) words) (ap spaced (cdc_begins c))
+    ∙ ap (lowest_in (schedule_text_of v) (class_row class.Cdc (first_of (tail (cdc_words c))))) (sym (cdc_begins c))
+    ∙ cdc_kept (schedule_text_of v) c (short_kept (schedule_text_of v) (cdc_is_short c h)) (spaced_is_printable (cdc_words c) words) h
+text_keeps (Device (Call (call.Hid c))) h =
+    let v : Scheduled = Device (Call (call.Hid c)) in
+    let words : list_all is_word (hid_words c) ≡ true = hid_words_are_words c h in
+    schedule_words (schedule_text_of v) (codes "hid") (tail (hid_words c)) (subst (λ (ws : List (List ℕ)). list_all is_word ws ≡ true) (hid_begins c) words) (ap spaced (hid_begins c))
+    ∙ ap (lowest_in (schedule_text_of v) (class_row class.Hid (first_of (tail (hid_words c))))) (sym (hid_begins c))
+    ∙ hid_kept (schedule_text_of v) c (short_kept (schedule_text_of v) (hid_is_short c h)) (spaced_is_printable (hid_words c) words) h
+text_keeps (Device (Call (call.Msc c))) h =
+    let v : Scheduled = Device (Call (call.Msc c)) in
+    let words : list_all is_word (msc_words c) ≡ true = msc_words_are_words c in
+    schedule_words (schedule_text_of v) (codes "msc") (tail (msc_words c)) (subst (λ (ws : List (List ℕ)). list_all is_word ws ≡ true) (msc_begins c) words) (ap spaced (msc_begins c))
+    ∙ ap (lowest_in (schedule_text_of v) (class_row class.Msc (first_of (tail (msc_words c))))) (sym (msc_begins c))
+    ∙ msc_kept (schedule_text_of v) c (short_kept (schedule_text_of v) (msc_is_short c)) (spaced_is_printable (msc_words c) words)
+text_keeps (Device (Call (call.Midi c))) h =
+    let v : Scheduled = Device (Call (call.Midi c)) in
+    let words : list_all is_word (midi_words c) ≡ true = midi_words_are_words c h in
+    schedule_words (schedule_text_of v) (codes "midi") (tail (midi_words c)) (subst (λ (ws : List (List ℕ)). list_all is_word ws ≡ true) (midi_begins c) words) (ap spaced (midi_begins c))
+    ∙ ap (lowest_in (schedule_text_of v) (class_row class.Midi (first_of (tail (midi_words c))))) (sym (midi_begins c))
+    ∙ midi_kept (schedule_text_of v) c (short_kept (schedule_text_of v) (midi_is_short c h)) (spaced_is_printable (midi_words c) words) h
 text_keeps End h = refl
 
 -- what is read as a line of the schedule keeps all rules

@@ -8,3 +8,4 @@ pub mod Broken
 pub mod Lines
 pub mod Replies
 pub mod Accesses
+pub mod Events

@@ -9,13 +9,12 @@ use Rattle.line_rules.specs.declared.rules.Place.TheVariants as place
 use Rattle.line_rules.specs.Rules.{most_line, lowest}
 use Rattle.usb_text.specs.declared.head.HeadLine.{HeadLine}
 use Rattle.usb_text.specs.declared.head.HeadLine.TheVariants as head
-use Rattle.device_line.specs.declared.line.DevLine.TheVariants.{Bus, Irq, Task, Call}
 use Rattle.usb_text.specs.Scheduled.{Scheduled}
 use Rattle.usb_text.specs.Scheduled as schedule
 use Rattle.usb_text.specs.declared.line.Line.{Line}
 use Rattle.usb_text.specs.declared.line.Line.TheVariants.{Head, Device, End}
 use Rattle.usb_text.specs.Head.{head_text, IsHead, head_of}
-use Rattle.usb_text.specs.Line.{line_text, IsInRange, IsLine, schedule_text_of, IsScheduled}
+use Rattle.usb_text.specs.Line.{line_text, IsLine, schedule_text_of, IsScheduled}
 use Rattle.usb_text.specs.Reading.{line_of}
 use Rattle.usb_text.specs.Plain.{is_plain}
 use Rattle.usb_text.specs.Lines.{StandsIn, of_head, of_schedule, line_in}
@@ -59,14 +58,6 @@ pub line_is_short : (line : Line) → IsLine line → length (line_text line) �
 line_is_short (Head line) h = head_is_short line h
 line_is_short (Device line) h = schedule_is_short (schedule.Device line) h
 line_is_short End h = omega arith
-
-pub line_is_in_range : (line : Line) → IsLine line → IsInRange line
-line_is_in_range (Head line) h = h
-line_is_in_range (Device (Bus e)) h = h
-line_is_in_range (Device Irq) h = tt
-line_is_in_range (Device Task) h = tt
-line_is_in_range (Device (Call call)) h = h.1
-line_is_in_range End h = tt
 
 abbrev Reads : Mode → Place → List ℕ → Line → Type 0
 Reads m p bytes line = (bytes ≡ line_text line) × IsLine line × StandsIn m p line

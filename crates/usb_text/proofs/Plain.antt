@@ -1,20 +1,21 @@
 -- No newline stands in a line's text, and it is short.
-use Rattle.std.proofs.Common.{◌≡◌, ℕ, ◌+◌, ◌*◌, ◌≤◌, ◌<◌, List, [], ◌∷◌, ◌++◌, Bool, true, false, not, eqb, length, refl, ◌∙◌, arith, codes, length-append}
-use Rattle.std.specs.List.{list_all, flat_map}
+use Rattle.std.proofs.Common.{◌≡◌, ℕ, ◌+◌, ◌≤◌, List, [], ◌∷◌, ◌++◌, Bool, true, false, not, eqb, length, refl, ◌∙◌, arith, codes, length-append}
+use Rattle.std.specs.List.{list_all}
 use Rattle.std.specs.Fmt.{decimal}
-use Rattle.std.proofs.lemmas.Fmt.{length-decimal-le}
 use Rattle.std.proofs.lemmas.List.Folds.{list_all-append}
 use Rattle.std.proofs.lemmas.Bool.Decides.{nat_tests}
 use Rattle.usb_packet.specs.declared.bus.Toggle.{Toggle}
 use Rattle.usb_packet.specs.declared.bus.Toggle.TheVariants.{D0, D1}
 use Rattle.usb_packet.specs.declared.bus.BusEvent.TheVariants as event
-use Rattle.usb_words.specs.Field.{space, spaced, hex, hex_pair}
+use Rattle.usb_words.specs.Field.{space, spaced, hex}
 use Rattle.usb_words.proofs.Hex.{is_seen, is_word}
 use Rattle.usb_words.proofs.Decimal.{and_true}
+use Rattle.usb_words.proofs.Lengths.{length-hex, length-number, length-two, length-three}
 use Rattle.line_rules.specs.Kinds.{bad, noack}
 use Rattle.line_rules.specs.Rules.{most_line}
 use Rattle.device_line.specs.declared.line.DevLine.TheVariants.{Bus, Irq, Task, Call}
 use Rattle.device_line.specs.declared.call.DevCall.TheVariants as call
+use Rattle.call_text.proofs.Printed.{cdc_is_short, hid_is_short, msc_is_short, midi_is_short}
 use Rattle.usb_text.specs.Scheduled.{Scheduled}
 use Rattle.usb_text.specs.Scheduled.{Device, End}
 use Rattle.usb_text.specs.declared.head.HeadLine.{HeadLine}
@@ -45,14 +46,6 @@ schedule_is_plain line h = spaced_is_plain (schedule_words_of line) (schedule_wo
 pub head_is_plain : (line : HeadLine) → IsHead line → is_plain (head_text line) ≡ true
 head_is_plain line h = spaced_is_plain (head_words line) (head_words_are_words line h)
 
-pub length-pairs : (bytes : List ℕ) → length (flat_map hex_pair bytes) ≡ 2 * length bytes
-length-pairs [] = refl
-length-pairs (b ∷ bs) = omega (arith, length-pairs bs)
-
-length-hex : (bytes : List ℕ) → length (hex bytes) ≤ 2 * length bytes + 1
-length-hex [] = omega arith
-length-hex (b ∷ bs) = omega (arith, length-pairs (b ∷ bs))
-
 length-fate : (other : List ℕ) (ok : Bool) → length other ≤ 5 → length (fate_text other ok) ≤ 5
 length-fate other true h = omega arith
 length-fate other false h = h
@@ -60,15 +53,6 @@ length-fate other false h = h
 length-toggle : (toggle : Toggle) → length (toggle_text toggle) ≡ 1
 length-toggle D0 = refl
 length-toggle D1 = refl
-
-length-number : (n most : ℕ) → n ≤ most → most < 1000 → length (decimal n) ≤ 3
-length-number n most h few = length-decimal-le 3 n (omega arith) (omega arith) (omega arith)
-
-length-two : (a b : List ℕ) → length (spaced (a ∷ b ∷ [])) ≡ length a + (1 + length b)
-length-two a b = length-append a (space ∷ b) ∙ omega arith
-
-length-three : (a b c : List ℕ) → length (spaced (a ∷ b ∷ c ∷ [])) ≡ length a + (1 + (length b + (1 + length c)))
-length-three a b c = length-append a _ ∙ omega (arith, length-append b (space ∷ c))
 
 length-four : (a b c d : List ℕ) → length (spaced (a ∷ b ∷ c ∷ d ∷ [])) ≡ length a + (1 + (length b + (1 + (length c + (1 + length d)))))
 length-four a b c d = length-append a _ ∙ omega (arith, length-append b (space ∷ (c ++ (space ∷ d))), length-append c (space ∷ d))
@@ -102,10 +86,10 @@ schedule_is_short (Device (Bus (event.In addr ep ok))) h =
 schedule_is_short (Device Irq) h = omega arith
 schedule_is_short (Device Task) h = omega arith
 schedule_is_short (Device (Call call.State)) h = omega arith
-schedule_is_short (Device (Call (call.Cdc c))) h = absurd h.0
-schedule_is_short (Device (Call (call.Hid c))) h = absurd h.0
-schedule_is_short (Device (Call (call.Msc c))) h = absurd h.0
-schedule_is_short (Device (Call (call.Midi c))) h = absurd h.0
+schedule_is_short (Device (Call (call.Cdc c))) h = cdc_is_short c h
+schedule_is_short (Device (Call (call.Hid c))) h = hid_is_short c h
+schedule_is_short (Device (Call (call.Msc c))) h = msc_is_short c
+schedule_is_short (Device (Call (call.Midi c))) h = midi_is_short c h
 schedule_is_short End h = omega arith
 
 pub head_is_short : (line : HeadLine) → IsHead line → length (head_text line) ≤ most_line

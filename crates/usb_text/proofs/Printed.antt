@@ -1,6 +1,7 @@
 -- The text of a line is read as that line.
-use Rattle.std.proofs.Common.{◌≡◌, ℕ, ◌≤◌, ◌^◌, ◌<◌, List, [], ◌∷◌, Bool, true, false, Some, length, refl, ap, ◌∙◌, arith, codes}
+use Rattle.std.proofs.Common.{◌≡◌, ℕ, ◌≤◌, ◌^◌, ◌<◌, List, [], ◌∷◌, Bool, true, false, Some, length, refl, ap, ◌∙◌, arith, codes, subst}
 use Rattle.std.specs.List.{list_all}
+use Rattle.std.specs.Option.{option_map}
 use Rattle.std.specs.Fmt.{decimal}
 use Rattle.std.proofs.lemmas.Bool.Decides.{nat_tests}
 use Rattle.usb_packet.specs.declared.bus.Toggle.{Toggle}
@@ -10,13 +11,20 @@ use Rattle.usb_words.specs.Field.{spaced, hex, exactly, fate_of}
 use Rattle.usb_words.proofs.Hex.{is_word, hex_again, hex_is_word}
 use Rattle.usb_words.proofs.Decimal.{and_true, number_again, decimal_is_word}
 use Rattle.usb_words.proofs.Spaced.{pieces-spaced}
-use Rattle.line_rules.specs.Kinds.{bad, noack}
+use Rattle.line_rules.specs.declared.kinds.Kind.TheVariants as kind
+use Rattle.line_rules.specs.declared.kinds.Class.{Class}
+use Rattle.line_rules.specs.declared.kinds.Class.TheVariants as class
+use Rattle.line_rules.specs.Kinds.{kind_of, bad, noack}
 use Rattle.device_line.specs.declared.line.DevLine.TheVariants.{Bus, Irq, Task, Call}
+use Rattle.device_line.specs.declared.call.DevCall.{DevCall}
 use Rattle.device_line.specs.declared.call.DevCall.TheVariants as call
+use Rattle.call_text.specs.Call.{cdc_words, hid_words, msc_words, midi_words, call_words}
+use Rattle.call_text.specs.Reading.{class_call}
+use Rattle.call_text.proofs.Printed.{tail, cdc_begins, hid_begins, msc_begins, midi_begins, cdc_words_are_words, hid_words_are_words, msc_words_are_words, midi_words_are_words, cdc_again, hid_again, msc_again, midi_again}
 use Rattle.usb_text.specs.Scheduled.{Scheduled}
 use Rattle.usb_text.specs.Scheduled.{Device, End}
 use Rattle.usb_text.specs.Line.{fate_text, toggle_text, schedule_words_of, schedule_text_of, IsScheduled}
-use Rattle.usb_text.specs.Reading.{toggle_of, words_line, line_of}
+use Rattle.usb_text.specs.Reading.{toggle_of, of_call, fields_line, words_line, line_of}
 
 fate_is_word : (other : List ℕ) (ok : Bool) → is_word other ≡ true → is_word (fate_text other ok) ≡ true
 fate_is_word other true h = refl
@@ -62,10 +70,10 @@ schedule_words_are_words (Device (Bus (event.In addr ep ok))) h =
 schedule_words_are_words (Device Irq) h = refl
 schedule_words_are_words (Device Task) h = refl
 schedule_words_are_words (Device (Call call.State)) h = refl
-schedule_words_are_words (Device (Call (call.Cdc c))) h = absurd h.0
-schedule_words_are_words (Device (Call (call.Hid c))) h = absurd h.0
-schedule_words_are_words (Device (Call (call.Msc c))) h = absurd h.0
-schedule_words_are_words (Device (Call (call.Midi c))) h = absurd h.0
+schedule_words_are_words (Device (Call (call.Cdc c))) h = cdc_words_are_words c h
+schedule_words_are_words (Device (Call (call.Hid c))) h = hid_words_are_words c h
+schedule_words_are_words (Device (Call (call.Msc c))) h = msc_words_are_words c
+schedule_words_are_words (Device (Call (call.Midi c))) h = midi_words_are_words c h
 schedule_words_are_words End h = refl
 
 -- the text of words is read by those words
@@ -91,6 +99,15 @@ in_again addr ep ok h =
     cut_again (codes "in") (decimal addr ∷ decimal ep ∷ fate_text noack ok ∷ []) (schedule_words_are_words (Device (Bus (event.In addr ep ok))) h)
     ∙ rw (number_again addr 127 h.0 (omega arith), number_again ep 15 h.1 (omega arith), noack_again ok) refl
 
+call_again : (name : List ℕ) (words : List (List ℕ)) (class : Class) (call : DevCall) → call_words call ≡ name ∷ words → list_all is_word (call_words call) ≡ true
+    → kind_of name ≡ Some (kind.Class class) → class_call class words ≡ Some call
+    → line_of (schedule_text_of (Device (Call call))) ≡ Some (Device (Call call))
+call_again name words class call e h named read =
+    ap (λ ws. line_of (spaced ws)) e
+    ∙ cut_again name words (subst (λ (ws : List (List ℕ)). list_all is_word ws ≡ true) e h)
+    ∙ ap (λ k. fields_line k words) named
+    ∙ ap of_call read
+
 pub line_again : (line : Scheduled) → IsScheduled line → line_of (schedule_text_of line) ≡ Some line
 line_again (Device (Bus event.Reset)) h = refl
 line_again (Device (Bus (event.Setup addr bytes ok))) h = setup_again addr bytes ok h
@@ -99,8 +116,12 @@ line_again (Device (Bus (event.In addr ep ok))) h = in_again addr ep ok h
 line_again (Device Irq) h = refl
 line_again (Device Task) h = refl
 line_again (Device (Call call.State)) h = refl
-line_again (Device (Call (call.Cdc c))) h = absurd h.0
-line_again (Device (Call (call.Hid c))) h = absurd h.0
-line_again (Device (Call (call.Msc c))) h = absurd h.0
-line_again (Device (Call (call.Midi c))) h = absurd h.0
+line_again (Device (Call (call.Cdc c))) h =
+    call_again (codes "cdc") (tail (cdc_words c)) class.Cdc (call.Cdc c) (cdc_begins c) (cdc_words_are_words c h) refl (ap (option_map (λ d. call.Cdc d)) (cdc_again c h))
+line_again (Device (Call (call.Hid c))) h =
+    call_again (codes "hid") (tail (hid_words c)) class.Hid (call.Hid c) (hid_begins c) (hid_words_are_words c h) refl (ap (option_map (λ d. call.Hid d)) (hid_again c h))
+line_again (Device (Call (call.Msc c))) h =
+    call_again (codes "msc") (tail (msc_words c)) class.Msc (call.Msc c) (msc_begins c) (msc_words_are_words c) refl (ap (option_map (λ d. call.Msc d)) (msc_again c))
+line_again (Device (Call (call.Midi c))) h =
+    call_again (codes "midi") (tail (midi_words c)) class.Midi (call.Midi c) (midi_begins c) (midi_words_are_words c h) refl (ap (option_map (λ d. call.Midi d)) (midi_again c h))
 line_again End h = refl

@@ -1,5 +1,5 @@
 -- What is read as a line has that line's text.
-use Rattle.std.proofs.Common.{◌≡◌, ℕ, List, [], ◌∷◌, Bool, true, false, Option, Some, None, length, refl, ap, sym, ◌∙◌, arith, codes, cond, eqb, ◌⊎◌, inl, inr, subst}
+use Rattle.std.proofs.Common.{◌≡◌, ℕ, List, [], ◌∷◌, Bool, true, false, Option, Some, None, length, refl, ap, sym, ◌∙◌, arith, codes, cond, eqb, inl, inr, subst}
 use Rattle.std.specs.Str.{bytes_eq}
 use Rattle.std.specs.Cmp.Lexicographic.{same_text}
 use Rattle.std.proofs.lemmas.Bool.Decides.{nat_tests}
@@ -13,50 +13,20 @@ use Rattle.usb_words.proofs.Hex.{hex_only}
 use Rattle.usb_words.proofs.Decimal.{number_only}
 use Rattle.line_rules.specs.declared.kinds.Kind.{Kind}
 use Rattle.line_rules.specs.declared.kinds.Kind.TheVariants as kind
+use Rattle.line_rules.specs.declared.kinds.Class.{Class}
 use Rattle.line_rules.specs.Kinds.{kind_of, bad, noack}
+use Rattle.line_rules.proofs.Names.{class_name, name_of, kind_only}
+use Rattle.usb_words.proofs.Alone.{chosen}
 use Rattle.device_line.specs.declared.line.DevLine.TheVariants.{Bus, Irq, Task, Call}
+use Rattle.device_line.specs.declared.call.DevCall.{DevCall}
 use Rattle.device_line.specs.declared.call.DevCall.TheVariants as call
+use Rattle.call_text.specs.Reading.{class_call}
+use Rattle.call_text.proofs.Only.{class_call_only}
 use Rattle.usb_text.specs.Scheduled.{Scheduled}
 use Rattle.usb_text.specs.Scheduled.{Device, End}
 use Rattle.usb_text.specs.Line.{fate_text, toggle_text, most_address, most_endpoint, schedule_words_of, schedule_text_of, IsScheduled}
-use Rattle.usb_text.specs.Reading.{three, five, toggle_of, setup_line, setup_words, out_line, out_words, in_line, in_words, alone, fields_line, words_line, line_of}
+use Rattle.usb_text.specs.Reading.{three, five, toggle_of, setup_line, setup_words, out_line, out_words, in_line, in_words, alone, of_call, fields_line, words_line, line_of}
 use Rattle.usb_text.proofs.Printed.{line_again}
-
--- the first word of each kind of line
-abbrev name_of : Kind → List ℕ
-name_of kind.Reset = codes "reset"
-name_of kind.Irq = codes "irq"
-name_of kind.Task = codes "task"
-name_of kind.End = codes "end"
-name_of kind.State = codes "state"
-name_of kind.Setup = codes "setup"
-name_of kind.Out = codes "out"
-name_of kind.In = codes "in"
-
--- a test chose this value, or the others did
-pub chosen : {A : Type 0} (test : Bool) (this value : A) (others : Option A) → cond test (Some this) others ≡ Some value
-    → ((test ≡ true) × (this ≡ value)) ⊎ (others ≡ Some value)
-chosen true this value others h = inl (refl, cc)
-chosen false this value others h = inr h
-
-named : (name text : List ℕ) (this kind : Kind) (others : Option Kind) → text ≡ name_of this
-    → (others ≡ Some kind → name ≡ name_of kind) → cond (bytes_eq name text) (Some this) others ≡ Some kind → name ≡ name_of kind
-named name text this kind others e rest h =
-    elim (chosen (bytes_eq name text) this kind others h) [
-      | inl c ↦ same_text name text (sym c.0) ∙ e ∙ ap name_of c.1
-      | inr o ↦ rest o
-    ]
-
-kind_only : (name : List ℕ) (kind : Kind) → kind_of name ≡ Some kind → name ≡ name_of kind
-kind_only name k h =
-    named name (codes "in") kind.In k _ refl (
-    named name (codes "out") kind.Out k _ refl (
-    named name (codes "setup") kind.Setup k _ refl (
-    named name (codes "irq") kind.Irq k _ refl (
-    named name (codes "task") kind.Task k _ refl (
-    named name (codes "reset") kind.Reset k _ refl (
-    named name (codes "end") kind.End k _ refl (
-    named name (codes "state") kind.State k _ refl (λ (e : None ≡ Some k). absurd (cc))))))))) h
 
 fate_only : (other word : List ℕ) (ok : Bool) → fate_of other word ≡ Some ok → word ≡ fate_text other ok
 fate_only other word ok h =
@@ -168,15 +138,23 @@ alone_only : (name : List ℕ) (fields : List (List ℕ)) (this line : Scheduled
 alone_only name [] this line e ok h = let same : this ≡ line = cc in subst (Reads (name ∷ [])) same (sym e, ok)
 alone_only name (f ∷ fs) this line e ok h = absurd (cc)
 
+call_only : (c : Class) (fields : List (List ℕ)) (r : Option DevCall) (line : Scheduled) → class_call c fields ≡ r → of_call r ≡ Some line → Reads (class_name c ∷ fields) line
+call_only c fields None line e h = absurd (cc)
+call_only c fields (Some call) line e h =
+    let t = class_call_only c fields call e in
+    let same : Device (Call call) ≡ line = cc in
+    subst (Reads (class_name c ∷ fields)) same (t.0, t.1)
+
 fields_only : (kind : Kind) (fields : List (List ℕ)) (line : Scheduled) → fields_line (Some kind) fields ≡ Some line → Reads (name_of kind ∷ fields) line
 fields_only kind.Reset fields line h = alone_only (codes "reset") fields (Device (Bus event.Reset)) line refl tt h
 fields_only kind.Irq fields line h = alone_only (codes "irq") fields (Device Irq) line refl tt h
 fields_only kind.Task fields line h = alone_only (codes "task") fields (Device Task) line refl tt h
 fields_only kind.End fields line h = alone_only (codes "end") fields End line refl tt h
-fields_only kind.State fields line h = alone_only (codes "state") fields (Device (Call call.State)) line refl (tt, tt) h
+fields_only kind.State fields line h = alone_only (codes "state") fields (Device (Call call.State)) line refl tt h
 fields_only kind.Setup fields line h = setup_only fields (three fields) line refl h
 fields_only kind.Out fields line h = out_only fields (five fields) line refl h
 fields_only kind.In fields line h = in_only fields (three fields) line refl h
+fields_only (kind.Class c) fields line h = call_only c fields (class_call c fields) line refl h
 
 kind_fields_only : (name : List ℕ) (k : Option Kind) (fields : List (List ℕ)) (line : Scheduled) → kind_of name ≡ k → fields_line k fields ≡ Some line → Reads (name ∷ fields) line
 kind_fields_only name None fields line e h = absurd (cc)

@@ -1,7 +1,7 @@
 -- The lines of a job's head: its descriptors and strings, and the line that ends it.
-use Rattle.std.specs.Prelude.{ℕ, ◌≤◌, List, [], ◌∷◌, codes, if◌then◌else◌, nat_le, Option, Some, None, ⊤}
+use Rattle.std.specs.Prelude.{ℕ, ◌≤◌, List, [], ◌∷◌, codes, if◌then◌else◌, Option, Some, None, ⊤}
 use Rattle.std.specs.Fmt.{decimal}
-use Rattle.usb_words.specs.Field.{HasBytes, pieces, spaced, none_left, hex, number_of, bytes_in, at_least}
+use Rattle.usb_words.specs.Field.{HasBytes, pieces, spaced, none_left, hex, number_of, bytes_in, at_least, one, bytes_word, from}
 use Rattle.line_rules.specs.declared.kinds.HeadKind.{HeadKind}
 use Rattle.line_rules.specs.declared.kinds.HeadKind.TheVariants as kind
 use Rattle.line_rules.specs.Kinds.{head_kind_of}
@@ -47,18 +47,10 @@ IsHead (Text index body) = (1 ≤ index) × (index ≤ most_index) × HasBytes l
 IsHead (Report bytes) = HasBytes 1 most_report bytes.items
 IsHead Begin = ⊤
 
--- how a line of the head is read: by its words. Exactly one word, exactly two
-abbrev pub one : List (List ℕ) → Option (List ℕ)
-one (a ∷ []) = Some a
-one _ = None
-
+-- how a line of the head is read: by its words. Exactly two words
 abbrev pub two : List (List ℕ) → Option (List ℕ × List ℕ)
 two (a ∷ b ∷ []) = Some (a, b)
 two _ = None
-
-abbrev pub bytes_word : ℕ → ℕ → Option (List ℕ) → Option (List ℕ)
-bytes_word least most None = None
-bytes_word least most (Some word) = at_least least (bytes_in most word)
 
 abbrev pub of_device : Option (List ℕ) → Option HeadLine
 of_device None = None
@@ -72,11 +64,6 @@ abbrev pub of_report : Option (List ℕ) → Option HeadLine
 of_report None = None
 of_report (Some bytes) = Some (Report (record { items = bytes }))
 
--- a number that isn't 0
-abbrev pub from_one : Option ℕ → Option ℕ
-from_one None = None
-from_one (Some n) = if nat_le 1 n then Some n else None
-
 abbrev pub of_text : Option ℕ → Option (List ℕ) → Option HeadLine
 of_text None body = None
 of_text (Some index) None = None
@@ -84,7 +71,7 @@ of_text (Some index) (Some body) = Some (Text index (record { items = body }))
 
 abbrev pub text_words : Option (List ℕ × List ℕ) → Option HeadLine
 text_words None = None
-text_words (Some w) = of_text (from_one (number_of most_index w.0)) (at_least least_text (bytes_in most_text w.1))
+text_words (Some w) = of_text (from 1 (number_of most_index w.0)) (at_least least_text (bytes_in most_text w.1))
 
 abbrev pub head_fields : Option HeadKind → List (List ℕ) → Option HeadLine
 head_fields None words = None

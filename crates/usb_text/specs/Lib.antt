@@ -1,4 +1,3 @@
-pub mod Call
 pub mod Head
 pub mod Reply
 pub mod Scheduled

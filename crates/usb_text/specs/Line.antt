@@ -16,7 +16,7 @@ use Rattle.usb_text.specs.declared.line.Line.{Line}
 use Rattle.usb_text.specs.declared.line.Line.TheVariants.{Head, Device, End}
 use Rattle.device_line.specs.declared.line.Answer.{Answer}
 use Rattle.device_line.specs.declared.line.Answer.TheVariants as answer
-use Rattle.usb_text.specs.Call.{call_words, IsCall, IsServed}
+use Rattle.call_text.specs.Call.{call_words, IsCall}
 use Rattle.usb_text.specs.Head.{head_words, IsHead}
 use Rattle.usb_text.specs.Reply.{bus_words, reply_words}
 
@@ -74,23 +74,11 @@ IsEvent (event.Out addr ep toggle packet ok) = (addr ≤ most_address) × (ep �
 IsEvent (event.In addr ep ok) = (addr ≤ most_address) × (ep ≤ most_endpoint)
 
 -- the ranges of a line's fields
-abbrev pub HasRanges : DevLine → Type 0
-HasRanges (Bus e) = IsEvent e
-HasRanges Irq = ⊤
-HasRanges Task = ⊤
-HasRanges (Call call) = IsCall call
-
-abbrev pub IsInRange : Line → Type 0
-IsInRange (Head line) = IsHead line
-IsInRange (Device line) = HasRanges line
-IsInRange End = ⊤
-
--- it is in range and, where it is a call, one whose class is built
 abbrev pub IsDeviceLine : DevLine → Type 0
 IsDeviceLine (Bus e) = IsEvent e
 IsDeviceLine Irq = ⊤
 IsDeviceLine Task = ⊤
-IsDeviceLine (Call call) = IsServed call × IsCall call
+IsDeviceLine (Call call) = IsCall call
 
 abbrev pub IsLine : Line → Type 0
 IsLine (Head line) = IsHead line

@@ -3,13 +3,16 @@ use Rattle.std.specs.Prelude.{ℕ, List, [], ◌∷◌, Bool, Option, Some, None
 use Rattle.std.specs.Str.{bytes_eq}
 use Rattle.usb_packet.specs.declared.bus.Toggle.{Toggle}
 use Rattle.usb_packet.specs.declared.bus.Toggle.TheVariants.{D0, D1}
+use Rattle.usb_packet.specs.declared.bus.BusEvent.{BusEvent}
 use Rattle.usb_packet.specs.declared.bus.BusEvent.TheVariants as event
 use Rattle.usb_words.specs.Field.{pieces, none_left, number_of, bytes_in, exactly, fate_of}
 use Rattle.line_rules.specs.declared.kinds.Kind.{Kind}
 use Rattle.line_rules.specs.declared.kinds.Kind.TheVariants as kind
 use Rattle.line_rules.specs.Kinds.{kind_of, bad, noack}
 use Rattle.device_line.specs.declared.line.DevLine.TheVariants.{Bus, Irq, Task, Call}
+use Rattle.device_line.specs.declared.call.DevCall.{DevCall}
 use Rattle.device_line.specs.declared.call.DevCall.TheVariants as call
+use Rattle.call_text.specs.Reading.{class_call}
 use Rattle.usb_text.specs.Scheduled.{Scheduled}
 use Rattle.usb_text.specs.Scheduled.{Device, End}
 use Rattle.usb_text.specs.Line.{most_address, most_endpoint}
@@ -63,6 +66,11 @@ in_words (Some w) = in_line (number_of most_address w.0) (number_of most_endpoin
 abbrev pub alone : List (List ℕ) → Scheduled → Option Scheduled
 alone fields line = if none_left fields then Some line else None
 
+-- a call of a class
+abbrev pub of_call : Option DevCall → Option Scheduled
+of_call None = None
+of_call (Some c) = Some (Device (Call c))
+
 abbrev pub fields_line : Option Kind → List (List ℕ) → Option Scheduled
 fields_line None fields = None
 fields_line (Some kind.Reset) fields = alone fields (Device (Bus event.Reset))
@@ -73,6 +81,7 @@ fields_line (Some kind.State) fields = alone fields (Device (Call call.State))
 fields_line (Some kind.Setup) fields = setup_words (three fields)
 fields_line (Some kind.Out) fields = out_words (five fields)
 fields_line (Some kind.In) fields = in_words (three fields)
+fields_line (Some (kind.Class c)) fields = of_call (class_call c fields)
 
 abbrev pub words_line : List (List ℕ) → Option Scheduled
 words_line [] = None
@@ -81,3 +90,15 @@ words_line (name ∷ fields) = fields_line (kind_of name) fields
 -- the line that bytes are the text of
 abbrev pub line_of : List ℕ → Option Scheduled
 line_of bytes = words_line (pieces bytes)
+
+abbrev pub on_bus : BusEvent → Scheduled
+on_bus e = Device (Bus e)
+
+-- the bus event that a line is
+abbrev pub event_in : Option Scheduled → Option BusEvent
+event_in None = None
+event_in (Some End) = None
+event_in (Some (Device (Bus e))) = Some e
+event_in (Some (Device Irq)) = None
+event_in (Some (Device Task)) = None
+event_in (Some (Device (Call c))) = None

@@ -1,13 +1,13 @@
 ghost use Rattle.std.specs.Prelude.{◌≡◌, IfOk, IfErr};
 ghost use Rattle.std.specs.Option.{option_map};
-ghost use Rattle.usb_words.specs.Field.{number_of};
+ghost use Rattle.usb_words.specs.Field.{number_of, from};
 ghost use Rattle.line_rules.specs.Kinds.{head_kind_of};
 ghost use Rattle.usb_text.specs.declared.head.HeadLine.{HeadLine};
-ghost use Rattle.usb_text.specs.Head.{head_text, IsHead, one, two, bytes_word, text_words, from_one, head_fields, head_of};
+ghost use Rattle.usb_text.specs.Head.{head_text, IsHead, two, text_words, head_fields, head_of};
 
 use arrayvec::ArrayVec;
 use line_rules::{HeadKind, head_kind_of};
-use usb_words::{Words, read_hex, small_number};
+use usb_words::{Words, last_bytes, read_hex, small_number};
 
 /// A line of a job's head.
 #[derive(Drop)]
@@ -40,16 +40,16 @@ fn head_fields(kind: HeadKind, words: &mut Words<'_>) -> Option<HeadLine>
 {
     match kind {
         HeadKind::Device => {
-            let bytes = some_bytes::<64>(words)?;
+            let bytes = last_bytes::<64>(words, 1)?;
             Some(HeadLine::Device(bytes))
         }
         HeadKind::Config => {
-            let bytes = some_bytes::<600>(words)?;
+            let bytes = last_bytes::<600>(words, 1)?;
             Some(HeadLine::Config(bytes))
         }
         HeadKind::Text => read_text(words),
         HeadKind::Report => {
-            let bytes = some_bytes::<512>(words)?;
+            let bytes = last_bytes::<512>(words, 1)?;
             Some(HeadLine::Report(bytes))
         }
         HeadKind::Begin => match words.next() {
@@ -57,26 +57,6 @@ fn head_fields(kind: HeadKind, words: &mut Words<'_>) -> Option<HeadLine>
             Some(_) => None,
         },
     }
-}
-
-/// The one word that is left.
-fn one<'a>(words: &mut Words<'a>) -> Option<&'a [u8]>
-    ensures { option_map (λ w. w.now) result ≡ one words.old }
-{
-    let word = words.next()?;
-    match words.next() {
-        None => Some(word),
-        Some(_) => None,
-    }
-}
-
-/// The bytes, 1 to `N`, of the one word that is left.
-fn some_bytes<const N: usize>(words: &mut Words<'_>) -> Option<ArrayVec<u8, N>>
-    ensures { option_map (λ v. v.items) result ≡ bytes_word 1 N (one words.old) }
-{
-    let word = one(words)?;
-    let bytes = read_hex(word)?;
-    if bytes.is_empty() { None } else { Some(bytes) }
 }
 
 /// The words that are left, where they are two.
@@ -107,7 +87,7 @@ fn read_text(words: &mut Words<'_>) -> Option<HeadLine>
 
 /// A string's index, 1 to 255.
 fn index_of(word: &[u8]) -> Option<u8>
-    ensures { result ≡ from_one (number_of 255 word.now) }
+    ensures { result ≡ from 1 (number_of 255 word.now) }
 {
     let n = small_number(word, 255)?;
     if n == 0 { None } else { Some(n) }

@@ -10,18 +10,21 @@ ghost use Rattle.line_rules.specs.Rules.{lowest};
 ghost use Rattle.usb_text.specs.declared.line.Line.{Line};
 ghost use Rattle.usb_text.specs.Scheduled.{Scheduled};
 ghost use Rattle.device_line.specs.declared.line.Answer.{Answer};
+ghost use Rattle.device_line.specs.declared.call.DevCall.{DevCall};
+ghost use Rattle.call_text.specs.Call.{call_text, IsCall};
 ghost use Rattle.usb_text.specs.declared.head.HeadLine.{HeadLine};
 ghost use Rattle.usb_text.specs.Line.{line_text, IsLine, schedule_text_of, IsScheduled, answer_text};
 ghost use Rattle.usb_text.specs.Head.{head_text, IsHead};
 ghost use Rattle.usb_text.specs.Plain.{is_plain};
 ghost use Rattle.usb_text.specs.Lines.{StandsIn};
 
-/// A law: each line has one text, and each text is that of one line at most, wherever it stands. No text of
+/// A law: each line has one text, and each text is that of one line at most, wherever it stands; so it is of each call. No text of
 /// a line has a newline, and none of an answer, whatever its bytes and numbers are.
-#[tactic(auto, using(crate::proofs::Lines::same_line, crate::proofs::Lines::line_is_plain, crate::proofs::Spelling::same_schedule, crate::proofs::Spelling::same_head, crate::proofs::Plain::schedule_is_plain, crate::proofs::Plain::head_is_plain, crate::proofs::Replies::answer_is_plain))]
+#[tactic(auto, using(crate::proofs::Lines::same_line, crate::proofs::Lines::line_is_plain, crate::proofs::Spelling::same_schedule, crate::proofs::Spelling::same_call, crate::proofs::Spelling::same_head, crate::proofs::Plain::schedule_is_plain, crate::proofs::Plain::head_is_plain, crate::proofs::Replies::answer_is_plain))]
 pub fn one_spelling()
     ensures line { (a b : Line) → IsLine a → IsLine b → line_text a ≡ line_text b → a ≡ b }
     ensures schedule { (a b : Scheduled) → IsScheduled a → IsScheduled b → schedule_text_of a ≡ schedule_text_of b → a ≡ b }
+    ensures call { (a b : DevCall) → IsCall a → IsCall b → call_text a ≡ call_text b → a ≡ b }
     ensures head { (a b : HeadLine) → IsHead a → IsHead b → head_text a ≡ head_text b → a ≡ b }
     ensures plain_line { (a : Line) → IsLine a → is_plain (line_text a) ≡ true }
     ensures plain_schedule { (a : Scheduled) → IsScheduled a → is_plain (schedule_text_of a) ≡ true }

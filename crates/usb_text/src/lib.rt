@@ -7,18 +7,17 @@ mod line;
 mod reading;
 mod reply;
 mod show;
-mod show_call;
 
+pub use call_text::call_text;
 pub use device_line::{Answer, DevCall, DevLine};
 pub use head::HeadLine;
 pub use laws::{one_spelling, register_lines, texts_keep_rules};
-pub use line::{Line, ScheduleLine, ServedLine};
+pub use line::{Line, ScheduleLine};
 pub use line_rules::{LineFault, MOST_LINE, Mode, Place, lowest_rule};
-pub use reading::{RunLine, read_head, read_line, read_run, read_schedule};
+pub use reading::{RunLine, read_bus, read_head, read_line, read_run, read_schedule};
 pub use register_text::{MOST_ACCESS, Side, access_text, push_access_line};
 pub use reply::{MOST_ANSWER, answer_text, push_bus_line, push_done_line, push_reply_line};
 pub use show::{head_text, line_text};
-pub use show_call::call_text;
 
 #[cfg(test)]
 mod tests;

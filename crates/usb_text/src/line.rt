@@ -2,11 +2,14 @@ ghost use Rattle.std.specs.Prelude.{◌≡◌, codes};
 ghost use Rattle.std.specs.Option.{option_map};
 ghost use Rattle.usb_words.specs.Field.{none_left, number_of, bytes_in, exactly, fate_of};
 ghost use Rattle.line_rules.specs.Kinds.{kind_of, bad, noack};
-ghost use Rattle.usb_text.specs.Scheduled.{scheduled, device_line};
+ghost use Rattle.usb_packet.specs.declared.bus.BusEvent.TheVariants as event;
+ghost use Rattle.device_line.specs.declared.line.DevLine.TheVariants.{Bus};
+ghost use Rattle.usb_text.specs.Scheduled.{scheduled, Device};
 ghost use Rattle.usb_text.specs.Line.{most_address, most_endpoint};
-ghost use Rattle.usb_text.specs.Reading.{three, five, toggle_of, setup_words, out_words, in_words, alone, fields_line, line_of};
+ghost use Rattle.usb_text.specs.Reading.{three, five, toggle_of, setup_words, out_words, in_words, alone, on_bus, event_in, fields_line, line_of};
 
 use crate::head::HeadLine;
+use call_text::read_call;
 use device_line::{DevCall, DevLine};
 use line_rules::{Kind, kind_of};
 use usb_packet::{BusEvent, Packet, Toggle};
@@ -29,35 +32,11 @@ pub enum Line {
     End,
 }
 
-/// A line of a schedule that is served today. It is small, since a run reads one for each line, where `DevLine` has room
-/// for all bytes that a call may give.
-#[derive(Drop)]
-pub enum ServedLine {
-    Bus(BusEvent),
-    Irq,
-    Task,
-    /// The call `state`.
-    State,
-}
-
-impl ServedLine {
-    /// The same as a line of a device's schedule.
-    pub fn into_line(self) -> DevLine
-        ensures { result ≡ device_line self }
-    {
-        match self {
-            ServedLine::Bus(event) => DevLine::Bus(event),
-            ServedLine::Irq => DevLine::Irq,
-            ServedLine::Task => DevLine::Task,
-            ServedLine::State => DevLine::Call(DevCall::State),
-        }
-    }
-}
-
 /// A line of a job after its head.
 #[derive(Drop)]
 pub enum ScheduleLine {
-    Served(ServedLine),
+    /// What happens on the bus, a run, or a call.
+    Served(DevLine),
     /// The job's last line.
     End,
 }
@@ -77,17 +56,56 @@ fn read_fields(kind: Kind, words: &mut Words<'_>) -> Option<ScheduleLine>
     ensures { option_map scheduled result ≡ fields_line (Some kind) words.old }
 {
     match kind {
-        Kind::Reset => alone(
-            words,
-            ScheduleLine::Served(ServedLine::Bus(BusEvent::Reset)),
-        ),
-        Kind::Irq => alone(words, ScheduleLine::Served(ServedLine::Irq)),
-        Kind::Task => alone(words, ScheduleLine::Served(ServedLine::Task)),
-        Kind::State => alone(words, ScheduleLine::Served(ServedLine::State)),
+        Kind::Reset => alone(words, ScheduleLine::Served(DevLine::Bus(BusEvent::Reset))),
+        Kind::Irq => alone(words, ScheduleLine::Served(DevLine::Irq)),
+        Kind::Task => alone(words, ScheduleLine::Served(DevLine::Task)),
+        Kind::State => alone(words, ScheduleLine::Served(DevLine::Call(DevCall::State))),
         Kind::End => alone(words, ScheduleLine::End),
-        Kind::Setup => read_setup(words),
-        Kind::Out => read_out(words),
-        Kind::In => read_in(words),
+        Kind::Setup => on_bus(read_setup(words)),
+        Kind::Out => on_bus(read_out(words)),
+        Kind::In => on_bus(read_in(words)),
+        Kind::Class(class) => {
+            let call = read_call(class, words)?;
+            Some(ScheduleLine::Served(DevLine::Call(call)))
+        }
+    }
+}
+
+/// The line that a bus event is.
+fn on_bus(event: Option<BusEvent>) -> Option<ScheduleLine>
+    ensures { option_map scheduled result ≡ option_map on_bus event }
+{
+    let event = event?;
+    Some(ScheduleLine::Served(DevLine::Bus(event)))
+}
+
+#[tactic(auto, using(crate::proofs::Events::event_again, crate::proofs::Events::irq_is_none, crate::proofs::Events::task_is_none, crate::proofs::Events::state_is_none, crate::proofs::Events::end_is_none, crate::proofs::Events::call_is_none))]
+/// The bus event whose line these bytes are the text of, with no room for the bytes of a call on the way.
+pub fn event_of(line: &[u8]) -> Option<BusEvent>
+    ensures { result ≡ event_in (line_of line.now) }
+{
+    let mut words = Words::of(line);
+    let name = words.next()?;
+    match kind_of(name)? {
+        Kind::Reset => read_reset(&mut words),
+        Kind::Setup => read_setup(&mut words),
+        Kind::Out => read_out(&mut words),
+        Kind::In => read_in(&mut words),
+        Kind::Irq => None,
+        Kind::Task => None,
+        Kind::State => None,
+        Kind::End => None,
+        Kind::Class(_) => None,
+    }
+}
+
+/// `reset`
+fn read_reset(words: &mut Words<'_>) -> Option<BusEvent>
+    ensures { option_map on_bus result ≡ alone words.old (Device (Bus event.Reset)) }
+{
+    match words.next() {
+        None => Some(BusEvent::Reset),
+        Some(_) => None,
     }
 }
 
@@ -116,14 +134,14 @@ fn three<'a>(words: &mut Words<'a>) -> Option<(&'a [u8], &'a [u8], &'a [u8])>
 
 /// `setup ADDR HEX FATE`
 #[inline(never)]
-fn read_setup(words: &mut Words<'_>) -> Option<ScheduleLine>
-    ensures { option_map scheduled result ≡ setup_words (three words.old) }
+fn read_setup(words: &mut Words<'_>) -> Option<BusEvent>
+    ensures { option_map on_bus result ≡ setup_words (three words.old) }
 {
     let (addr, bytes, fate) = three(words)?;
     let addr = small_number(addr, MOST_ADDRESS)?;
     let bytes = eight(bytes)?;
     let ok = fate_of(fate, b"bad")?;
-    Some(ScheduleLine::Served(ServedLine::Bus(BusEvent::Setup { addr, bytes, ok })))
+    Some(BusEvent::Setup { addr, bytes, ok })
 }
 
 /// The words that are left, where they are five.
@@ -144,8 +162,8 @@ fn five<'a>(words: &mut Words<'a>) -> Option<(&'a [u8], &'a [u8], &'a [u8], &'a 
 
 /// `out ADDR EP T HEX FATE`
 #[inline(never)]
-fn read_out(words: &mut Words<'_>) -> Option<ScheduleLine>
-    ensures { option_map scheduled result ≡ out_words (five words.old) }
+fn read_out(words: &mut Words<'_>) -> Option<BusEvent>
+    ensures { option_map on_bus result ≡ out_words (five words.old) }
 {
     let (addr, ep, toggle, bytes, fate) = five(words)?;
     let addr = small_number(addr, MOST_ADDRESS)?;
@@ -153,25 +171,25 @@ fn read_out(words: &mut Words<'_>) -> Option<ScheduleLine>
     let toggle = toggle_of(toggle)?;
     let packet = packet(bytes)?;
     let ok = fate_of(fate, b"bad")?;
-    Some(ScheduleLine::Served(ServedLine::Bus(BusEvent::Out {
+    Some(BusEvent::Out {
         addr,
         ep,
         toggle,
         packet,
         ok,
-    })))
+    })
 }
 
 /// `in ADDR EP FATE`
 #[inline(never)]
-fn read_in(words: &mut Words<'_>) -> Option<ScheduleLine>
-    ensures { option_map scheduled result ≡ in_words (three words.old) }
+fn read_in(words: &mut Words<'_>) -> Option<BusEvent>
+    ensures { option_map on_bus result ≡ in_words (three words.old) }
 {
     let (addr, ep, fate) = three(words)?;
     let addr = small_number(addr, MOST_ADDRESS)?;
     let ep = small_number(ep, MOST_ENDPOINT)?;
     let ok = fate_of(fate, b"noack")?;
-    Some(ScheduleLine::Served(ServedLine::Bus(BusEvent::In { addr, ep, ok })))
+    Some(BusEvent::In { addr, ep, ok })
 }
 
 /// The eight bytes that a word is the text of.

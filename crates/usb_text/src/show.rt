@@ -1,15 +1,14 @@
 ghost use Rattle.std.specs.Prelude.{◌≡◌, ◌≤◌, [], ◌∷◌, length, codes};
 ghost use Rattle.std.specs.Fmt.{decimal};
-ghost use Rattle.arrayvec.specs.ArrayVec.{array_vec_len};
 ghost use Rattle.usb_packet.specs.declared.bus.BusEvent.TheVariants as event;
 ghost use Rattle.usb_words.specs.Field.{spaced, hex};
-ghost use Rattle.usb_text.specs.Line.{fate_text, toggle_text, event_words, IsEvent, device_words, HasRanges, line_text, IsInRange};
+ghost use Rattle.usb_text.specs.Line.{fate_text, toggle_text, event_words, IsEvent, device_words, IsDeviceLine, line_text, IsLine};
 ghost use Rattle.usb_text.specs.Head.{head_text, IsHead};
 
 use crate::head::HeadLine;
 use crate::line::Line;
-use crate::show_call::call_text;
 use arrayvec::ArrayVec;
+use call_text::{call_text, text_of};
 use device_line::DevLine;
 use usb_packet::{BusEvent, Packet, Toggle};
 use usb_words::{push_bytes, push_number, push_text, push_word};
@@ -17,10 +16,9 @@ use usb_words::{push_bytes, push_number, push_text, push_word};
 /// A text of at most a line's length.
 type Text = ArrayVec<u8, 8400>;
 
-/// The text of a line, without the newline that ends it. The lines of all calls have texts, also of those
-/// whose classes aren't built, so that nothing reads them yet.
+/// The text of a line, without the newline that ends it.
 pub fn line_text(line: &Line) -> ArrayVec<u8, 8400>
-    requires { IsInRange line.now }
+    requires { IsLine line.now }
     ensures { result.items ≡ line_text line.now }
 {
     match line {
@@ -31,7 +29,7 @@ pub fn line_text(line: &Line) -> ArrayVec<u8, 8400>
 }
 
 fn device_text(line: &DevLine) -> Text
-    requires { HasRanges line.now }
+    requires { IsDeviceLine line.now }
     ensures { result.items ≡ spaced (device_words line.now) }
 {
     match line {
@@ -40,17 +38,6 @@ fn device_text(line: &DevLine) -> Text
         DevLine::Task => text_of(b"task"),
         DevLine::Call(call) => call_text(call),
     }
-}
-
-/// A text of so many bytes, at most 16.
-pub fn text_of(bytes: &[u8]) -> Text
-    requires { length bytes.now ≤ 16 }
-    ensures items { result.items ≡ bytes.now }
-    ensures length { array_vec_len result ≡ length bytes.now }
-{
-    let mut out = ArrayVec::new();
-    push_text(&mut out, bytes);
-    out
 }
 
 fn event_text(event: &BusEvent) -> Text

@@ -1,13 +1,12 @@
 ghost use Rattle.std.specs.Prelude.{◌≡◌, ◌≤◌, length};
-ghost use Rattle.usb_text.specs.Call.{IsCall};
 
 use crate::{
-    Answer, DevCall, DevLine, Line, Mode, Place, answer_text, call_text, line_text, push_bus_line,
-    push_reply_line, read_head, read_line, read_schedule,
+    Answer, DevCall, DevLine, Line, Mode, Place, ScheduleLine, answer_text, line_text,
+    push_bus_line, push_reply_line, read_bus, read_head, read_line, read_schedule,
 };
 use arrayvec::ArrayVec;
 use usb_packet::{BusAnswer, BusEvent, Packet, Toggle};
-use usb_pipe::{CdcDeviceCall, HidDeviceCall, HostWord, MidiCall, MscDeviceCall, Reply};
+use usb_pipe::{CdcDeviceCall, HostWord, Reply};
 
 /// The rule by which a line is refused, or 0.
 fn rule_in(line: &[u8], mode: Mode, place: Place) -> u8 {
@@ -79,8 +78,12 @@ fn schedule_rules(rt: HostRuntime) {
         ("irq~", 3),
         ("  irqs", 3),
         ("begin", 3),
-        ("cdc flush", 3),
+        ("cdc", 3),
+        ("cdc x", 3),
+        ("cdc  x", 3),
+        ("hid flush", 3),
         ("state", 0),
+        ("cdc flush", 0),
         // words and spaces
         (" irq", 4),
         ("irq ", 4),
@@ -88,6 +91,10 @@ fn schedule_rules(rt: HostRuntime) {
         ("in a b", 4),
         ("in 0 0 ok ok", 4),
         ("end 1", 4),
+        ("cdc  flush", 4),
+        ("cdc flush x", 4),
+        ("cdc read", 4),
+        ("msc protect", 4),
         ("end", 0),
         // numbers
         ("in 128 0 ok", 5),
@@ -101,6 +108,13 @@ fn schedule_rules(rt: HostRuntime) {
         ("out 0 0 2 - ok", 5),
         ("out 0 x 0 zz ok", 5),
         ("in 127 15 ok", 0),
+        ("cdc read 0", 5),
+        ("cdc read 1025", 5),
+        ("cdc read 1024", 0),
+        ("cdc notify 65536", 5),
+        ("cdc notify 65535", 0),
+        ("msc protect 2", 5),
+        ("midi recv 0", 5),
         // bytes in hexadecimal
         ("setup 0 80060001000012 ok", 6),
         ("setup 0 800600010000120000 ok", 6),
@@ -125,6 +139,12 @@ fn schedule_rules(rt: HostRuntime) {
         ("setup 0 8006000100001200 okay", 7),
         ("in 0 0 noack", 0),
         ("out 0 0 0 ab bad", 0),
+        // the bytes of calls
+        ("cdc write -", 6),
+        ("cdc write 6A", 6),
+        ("cdc write 6a", 0),
+        ("hid report -", 6),
+        ("midi send f0f7f001f7f00102f7f001f80203f790407f417f", 0),
     ] {
         assert_eq!(rt; schedule_rule(line.as_bytes()), rule);
         assert_eq!(rt; run_rule(line.as_bytes()), rule);
@@ -198,6 +218,23 @@ fn texts(rt: HostRuntime) {
         ("irq", Place::Schedule),
         ("task", Place::Schedule),
         ("state", Place::Schedule),
+        ("cdc write 6162", Place::Schedule),
+        ("cdc read 64", Place::Schedule),
+        ("cdc flush", Place::Schedule),
+        ("cdc avail", Place::Schedule),
+        ("cdc line", Place::Schedule),
+        ("cdc notify 0", Place::Schedule),
+        ("hid report 0102030405060708", Place::Schedule),
+        ("hid take", Place::Schedule),
+        ("hid set", Place::Schedule),
+        ("hid idle", Place::Schedule),
+        ("msc eject", Place::Schedule),
+        ("msc insert", Place::Schedule),
+        ("msc protect 0", Place::Schedule),
+        ("msc protect 1", Place::Schedule),
+        ("midi send f8", Place::Schedule),
+        ("midi recv 1024", Place::Schedule),
+        ("midi bytes 1", Place::Schedule),
         ("end", Place::Schedule),
         ("device 1201", Place::Head),
         ("config 09", Place::Head),
@@ -225,58 +262,62 @@ fn fates(rt: HostRuntime) {
     }
 }
 
-/// Whether a call's line has this text, which no line of the schedule has yet.
-fn is_said(call: &DevCall, text: &[u8]) -> bool
-    requires { IsCall call.now }
-{
-    call_text(call).as_slice() == text && schedule_rule(text) == 3
+/// What a run reads of the bus is what any line is read as.
+#[test]
+fn events_of_the_bus(rt: HostRuntime) {
+    for (text, addr) in [
+        ("reset", None),
+        ("setup 5 8006000100001200 ok", Some(5)),
+        ("out 6 1 0 6162 bad", Some(6)),
+        ("in 7 2 noack", Some(7)),
+    ] {
+        let told = match read_bus(text.as_bytes()) {
+            Some(BusEvent::Setup { addr, bytes: _, ok }) if ok => Some(addr),
+            Some(
+                BusEvent::Out {
+                    addr,
+                    ep: 1,
+                    toggle: Toggle::D0,
+                    packet: _,
+                    ok,
+                },
+            ) if !ok => { Some(addr) }
+            Some(BusEvent::In { addr, ep: 2, ok }) if !ok => Some(addr),
+            _ => None,
+        };
+        assert_eq!(rt; told, addr);
+        assert!(rt; read_bus(text.as_bytes()).is_some());
+    }
+    for text in [
+        "irq",
+        "task",
+        "state",
+        "end",
+        "cdc flush",
+        "cdc write 00",
+        "in 0 16 ok",
+        "reset ",
+        "",
+    ] {
+        assert!(rt; read_bus(text.as_bytes()).is_none());
+    }
 }
 
-/// The lines of calls are printed, and none but `state` is read yet.
+/// A line `cdc write` is read as the bytes that it gives.
 #[test]
-fn calls(rt: HostRuntime) {
-    assert!(rt; is_said(&DevCall::Cdc(CdcDeviceCall::Read(1024)), b"cdc read 1024"));
-    assert!(rt; is_said(&DevCall::Cdc(CdcDeviceCall::Flush), b"cdc flush"));
-    assert!(rt; is_said(&DevCall::Cdc(CdcDeviceCall::Avail), b"cdc avail"));
-    assert!(rt; is_said(&DevCall::Cdc(CdcDeviceCall::Line), b"cdc line"));
-    assert!(rt;
-        is_said(
-            &DevCall::Cdc(CdcDeviceCall::Notify(65535)),
-            b"cdc notify 65535"
-        )
-    );
-    assert!(rt; is_said(&DevCall::Hid(HidDeviceCall::Take), b"hid take"));
-    assert!(rt; is_said(&DevCall::Hid(HidDeviceCall::Set), b"hid set"));
-    assert!(rt; is_said(&DevCall::Hid(HidDeviceCall::Idle), b"hid idle"));
-    assert!(rt; is_said(&DevCall::Msc(MscDeviceCall::Eject), b"msc eject"));
-    assert!(rt; is_said(&DevCall::Msc(MscDeviceCall::Insert), b"msc insert"));
-    assert!(rt;
-        is_said(
-            &DevCall::Msc(MscDeviceCall::Protect(true)),
-            b"msc protect 1"
-        )
-    );
-    assert!(rt;
-        is_said(
-            &DevCall::Msc(MscDeviceCall::Protect(false)),
-            b"msc protect 0"
-        )
-    );
-    assert!(rt; is_said(&DevCall::Midi(MidiCall::Recv(1)), b"midi recv 1"));
-    assert!(rt; is_said(&DevCall::Midi(MidiCall::Bytes(3)), b"midi bytes 3"));
-    let state = call_text(&DevCall::State);
-    assert_eq!(rt; state.as_slice(), b"state".as_slice());
-}
-
-/// The same of calls that give bytes.
-#[test]
-fn calls_with_bytes(rt: HostRuntime) {
-    let write = DevCall::Cdc(CdcDeviceCall::Write(bytes(&[1, 255])));
-    assert!(rt; is_said(&write, b"cdc write 01ff"));
-    let report = DevCall::Hid(HidDeviceCall::Report(bytes(&[0])));
-    assert!(rt; is_said(&report, b"hid report 00"));
-    let send = DevCall::Midi(MidiCall::Send(bytes(&[0x90])));
-    assert!(rt; is_said(&send, b"midi send 90"));
+fn bytes_of_a_call(rt: HostRuntime) {
+    match read_schedule(b"cdc write 68690a") {
+        Ok(ScheduleLine::Served(DevLine::Call(DevCall::Cdc(CdcDeviceCall::Write(bytes))))) => {
+            assert_eq!(rt; bytes.as_slice(), b"hi\n".as_slice());
+        }
+        _ => assert!(rt; false),
+    }
+    match read_schedule(b"cdc notify 65535") {
+        Ok(ScheduleLine::Served(DevLine::Call(DevCall::Cdc(CdcDeviceCall::Notify(bits))))) => {
+            assert_eq!(rt; bits, 65535);
+        }
+        _ => assert!(rt; false),
+    }
 }
 
 /// What a device answers on the bus.

@@ -6,3 +6,5 @@ pub mod Digits
 pub mod Decimal
 pub mod Spaced
 pub mod Spaces
+pub mod Alone
+pub mod Lengths

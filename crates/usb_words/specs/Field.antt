@@ -109,3 +109,23 @@ at_least least (Some bytes) = if nat_le least (length bytes) then Some bytes els
 -- whether a packet was whole, or its data acknowledged: `ok`, or the word for the other case
 abbrev pub fate_of : List ℕ → List ℕ → Option Bool
 fate_of other word = if bytes_eq word (codes "ok") then Some true else (if bytes_eq word other then Some false else None)
+
+-- exactly one word
+abbrev pub one : List (List ℕ) → Option (List ℕ)
+one (a ∷ []) = Some a
+one _ = None
+
+-- the bytes, from `least` to `most` of them, of one word
+abbrev pub bytes_word : ℕ → ℕ → Option (List ℕ) → Option (List ℕ)
+bytes_word least most None = None
+bytes_word least most (Some word) = at_least least (bytes_in most word)
+
+-- a number of at least so much
+abbrev pub from : ℕ → Option ℕ → Option ℕ
+from least None = None
+from least (Some n) = if nat_le least n then Some n else None
+
+-- the number, from `least` to `most`, of one word
+abbrev pub number_word : ℕ → ℕ → Option (List ℕ) → Option ℕ
+number_word least most None = None
+number_word least most (Some word) = from least (number_of most word)

@@ -1,6 +1,6 @@
 use crate::{
-    Words, is_numeral, number, push_bytes, push_number, push_text, push_wide, push_word, read_hex,
-    small_number, value,
+    Words, is_numeral, last_bytes, last_number, none_left, number, push_bytes, push_number,
+    push_text, push_wide, push_word, read_hex, small_number, value,
 };
 use arrayvec::ArrayVec;
 
@@ -77,4 +77,40 @@ fn written(rt: HostRuntime) {
         out.as_slice(),
         b"line ok 65535 4294967295 0af0 -".as_slice()
     );
+}
+
+/// The word that is left of a line, where it is one.
+#[test]
+fn last_words(rt: HostRuntime) {
+    let mut words = Words::of(b"cdc");
+    assert!(rt; words.next().is_some());
+    assert!(rt; none_left(&mut words));
+    assert!(rt; !none_left(&mut Words::of(b"")));
+    for (line, n) in [
+        ("1", Some(1)),
+        ("1024", Some(1024)),
+        ("0", None),
+        ("1025", None),
+        ("1 2", None),
+        ("1 ", None),
+        ("", None),
+    ] {
+        assert_eq!(rt; last_number(&mut Words::of(line.as_bytes()), 1, 1024), n);
+    }
+    assert_eq!(rt;
+        last_number(&mut Words::of(b"65535"), 0, 65535),
+        Some(65535)
+    );
+    for (line, len) in [
+        ("0a0b", Some(2)),
+        ("-", None),
+        ("0a 0b", None),
+        ("0a0b0c", None),
+    ] {
+        let told = match last_bytes::<2>(&mut Words::of(line.as_bytes()), 1) {
+            Some(bytes) => Some(bytes.len()),
+            None => None,
+        };
+        assert_eq!(rt; told, len);
+    }
 }

@@ -1,5 +1,5 @@
 use Rattle.std.proofs.Common.{sym, ◌∙◌}
-use Rattle.usb_text.proofs.Lines.{place_only, place_again, place_keeps, place_clash, line_is_in_range}
+use Rattle.usb_text.proofs.Lines.{place_only, place_again, place_keeps, place_clash}
 use Rattle.usb_text.proofs.reading.read_line.Goals as goal
 
 pub unreachable-requires : goal.unreachable-requires
@@ -11,7 +11,7 @@ returns-in-Some-clause-found c = place_only c.args.mode c.args.place c.args.byte
 
 pub returns-in-Some-clause-printable : goal.returns-in-Some-clause-printable
 returns-in-Some-clause-printable c =
-    line_is_in_range c.in-Some.value (place_only c.args.mode c.args.place c.args.bytes.now c.in-Some.value (sym c.line_in.ensures ∙ c.in-Some.is)).1
+    (place_only c.args.mode c.args.place c.args.bytes.now c.in-Some.value (sym c.line_in.ensures ∙ c.in-Some.is)).1
 
 pub returns-in-Some-clause-kept : goal.returns-in-Some-clause-kept
 returns-in-Some-clause-kept c = place_keeps c.args.mode c.args.place c.args.bytes.now c.in-Some.value (sym c.line_in.ensures ∙ c.in-Some.is)

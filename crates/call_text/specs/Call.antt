@@ -1,5 +1,5 @@
 -- The lines of an application's calls of a device, each with its one spelling.
-use Rattle.std.specs.Prelude.{ℕ, ◌<◌, ◌≤◌, List, [], ◌∷◌, true, false, codes, ⊤}
+use Rattle.std.specs.Prelude.{ℕ, ◌≤◌, List, [], ◌∷◌, true, false, codes, ⊤}
 use Rattle.std.specs.Fmt.{decimal}
 use Rattle.usb_pipe.specs.declared.call.CdcDeviceCall.{CdcDeviceCall}
 use Rattle.usb_pipe.specs.declared.call.CdcDeviceCall.TheVariants as cdc
@@ -53,6 +53,14 @@ call_text call = spaced (call_words call)
 abbrev pub most_transfer : ℕ
 most_transfer = 1024
 
+-- how many bytes a report has, with its id byte where it has one (HID 1.11, 5.6)
+abbrev pub most_report : ℕ
+most_report = 64
+
+-- the greatest state that SERIAL_STATE tells (CDC PSTN 1.2, 6.5.4)
+abbrev pub most_state : ℕ
+most_state = 65535
+
 abbrev pub IsAsked : ℕ → Type 0
 IsAsked n = (1 ≤ n) × (n ≤ most_transfer)
 
@@ -62,10 +70,10 @@ IsCdcCall (cdc.Read n) = IsAsked n
 IsCdcCall cdc.Flush = ⊤
 IsCdcCall cdc.Avail = ⊤
 IsCdcCall cdc.Line = ⊤
-IsCdcCall (cdc.Notify bits) = bits < 65536
+IsCdcCall (cdc.Notify bits) = bits ≤ most_state
 
 abbrev pub IsHidCall : HidDeviceCall → Type 0
-IsHidCall (hid.Report bytes) = HasBytes 1 64 bytes.items
+IsHidCall (hid.Report bytes) = HasBytes 1 most_report bytes.items
 IsHidCall hid.Take = ⊤
 IsHidCall hid.Set = ⊤
 IsHidCall hid.Idle = ⊤
@@ -82,12 +90,3 @@ IsCall (Cdc call) = IsCdcCall call
 IsCall (Hid call) = IsHidCall call
 IsCall (Msc call) = ⊤
 IsCall (Midi call) = IsMidiCall call
-
--- the calls of the classes that are built, which are those whose lines are read. Of the others no line is
--- read: their names are those of no line.
-abbrev pub IsServed : DevCall → Type 0
-IsServed State = ⊤
-IsServed (Cdc call) = ⊥
-IsServed (Hid call) = ⊥
-IsServed (Msc call) = ⊥
-IsServed (Midi call) = ⊥

@@ -1,13 +1,13 @@
 ghost use Rattle.std.specs.Prelude.{◌≡◌, ◌≤◌, [], ◌∷◌, length};
+ghost use Rattle.arrayvec.specs.ArrayVec.{array_vec_len};
 ghost use Rattle.std.specs.Fmt.{decimal};
 ghost use Rattle.usb_words.specs.Field.{spaced, hex};
-ghost use Rattle.usb_text.specs.Call.{cdc_words, hid_words, msc_words, midi_words, IsCdcCall, IsHidCall, IsMidiCall, call_text, IsCall};
+ghost use Rattle.call_text.specs.Call.{cdc_words, hid_words, msc_words, midi_words, IsCdcCall, IsHidCall, IsMidiCall, call_text, IsCall};
 
-use crate::show::text_of;
 use arrayvec::ArrayVec;
 use device_line::DevCall;
 use usb_pipe::{CdcDeviceCall, HidDeviceCall, MidiCall, MscDeviceCall};
-use usb_words::{push_bytes, push_number, push_word};
+use usb_words::{push_bytes, push_number, push_text, push_word};
 
 /// The text of a call's line, without the newline that ends it.
 pub fn call_text(call: &DevCall) -> ArrayVec<u8, 8400>
@@ -113,5 +113,16 @@ fn with_bytes(class: &[u8], name: &[u8], bytes: &[u8]) -> ArrayVec<u8, 8400>
     let mut out = text_of(class);
     push_word(&mut out, name);
     push_bytes(&mut out, bytes);
+    out
+}
+
+/// A text of so many bytes, at most 16.
+pub fn text_of(bytes: &[u8]) -> ArrayVec<u8, 8400>
+    requires { length bytes.now ≤ 16 }
+    ensures items { result.items ≡ bytes.now }
+    ensures length { array_vec_len result ≡ length bytes.now }
+{
+    let mut out = ArrayVec::new();
+    push_text(&mut out, bytes);
     out
 }

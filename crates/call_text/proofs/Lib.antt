@@ -1,0 +1,4 @@
+pub mod Printed
+pub mod Only
+pub mod Kept
+pub mod Found
