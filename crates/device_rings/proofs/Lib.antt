@@ -1,3 +1,4 @@
 pub mod Apart
 pub mod Found
 pub mod Numbered
+pub mod Capacities

@@ -3,3 +3,4 @@ pub mod Laws
 pub mod Rings
 pub mod Sizes
 pub mod Slots
+pub mod Capacities

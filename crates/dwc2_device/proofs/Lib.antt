@@ -17,3 +17,4 @@ pub mod Shut
 pub mod ControlBits
 pub mod InOrders
 pub mod NotesOrder
+pub mod Capacities

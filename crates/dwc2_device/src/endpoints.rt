@@ -2,7 +2,8 @@
 ghost use Rattle.std.specs.Prelude.{◌≡◌, ◌+◌, ◌-◌, ◌/◌, ◌≤◌, ◌<◌, [], true, false, length, max};
 ghost use Rattle.usb_descriptor.specs.Set.{is_core};
 ghost use Rattle.dwc2_regs.specs.declared.access.TheConstants.{FS4};
-ghost use Rattle.device_rings.specs.Rings.{in_ring, out_ring, with_in_ring};
+ghost use Rattle.device_rings.specs.Rings.{in_ring, out_ring, with_in_ring, ring_at, with_ring_at, emptied};
+ghost use Rattle.device_rings.specs.Capacities.{capacities_of};
 ghost use Rattle.endpoint_relation.specs.declared.out_.OutState.TheVariants as out_state;
 ghost use Rattle.endpoint_relation.specs.declared.in_.InState.TheVariants as in_state;
 ghost use Rattle.endpoint_relation.specs.InRelation.{InStands};
@@ -79,6 +80,7 @@ impl<R: Regs + Drop> DevPort<R> {
         requires sound { IsSound FS4 (joint self.old) rings.old }
         requires has { Has 3 self.old.bank }
         ensures port { port_of (joint self.new) rings.new ≡ cleared_at (port_of (joint self.old) rings.old) addr }
+        ensures capacities { capacities_of rings.new ≡ capacities_of rings.old }
         ensures sound { IsSound FS4 (joint self.new) rings.new }
         ensures order { Goes (serving 0) (serving 0) self.old self.new }
         ensures spends { Spends 3 self.old.bank self.new.bank }
@@ -94,6 +96,7 @@ impl<R: Regs + Drop> DevPort<R> {
         requires open_ { is_open_at self.old.software addr ≡ true }
         requires has { Has 3 self.old.bank }
         ensures port { port_of (joint self.new) rings.new ≡ cleared_at (port_of (joint self.old) rings.old) addr }
+        ensures capacities { capacities_of rings.new ≡ capacities_of rings.old }
         ensures sound { IsSound FS4 (joint self.new) rings.new }
         ensures order { Goes (serving 0) (serving 0) self.old self.new }
         ensures spends { Spends 3 self.old.bank self.new.bank }
@@ -131,6 +134,7 @@ impl<R: Regs + Drop> DevPort<R> {
         requires open_ { is_open_at self.old.software addr ≡ true }
         requires has { Has 3 self.old.bank }
         ensures port { port_of (joint self.new) rings.new ≡ dropped_at (port_of (joint self.old) rings.old) addr }
+        ensures rings { rings.new ≡ with_ring_at rings.old addr (emptied (ring_at rings.old addr)) }
         ensures sound { IsSound FS4 (joint self.new) rings.new }
         ensures order { Goes (serving 0) (serving 0) self.old self.new }
         ensures spends { Spends 3 self.old.bank self.new.bank }
@@ -203,6 +207,7 @@ impl<R: Regs + Drop> DevPort<R> {
         requires sound { IsSound FS4 (joint self.old) rings.old }
         requires has { Has 18 self.old.bank }
         ensures port { port_of (joint self.new) rings.new ≡ without_endpoints (port_of (joint self.old) rings.old) }
+        ensures capacities { capacities_of rings.new ≡ capacities_of rings.old }
         ensures sound { IsSound FS4 (joint self.new) rings.new }
         ensures order { Goes (serving 0) (serving 0) self.old self.new }
         ensures spends { Spends 18 self.old.bank self.new.bank }

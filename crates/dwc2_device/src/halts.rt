@@ -117,7 +117,7 @@ impl<R: Regs + Drop> DevPort<R> {
     }
 
     /// What is kept of the OUT endpoint of any number; of one that the controller hasn't there is nothing.
-    fn out_at(&self, number: u8) -> OutEndpoint
+    pub fn out_at(&self, number: u8) -> OutEndpoint
         ensures { result ≡ out_kept self.now.software number }
     {
         if number == 0 {
@@ -130,7 +130,7 @@ impl<R: Regs + Drop> DevPort<R> {
     }
 
     /// What is kept of the IN endpoint of any number.
-    fn in_at(&self, number: u8) -> InEndpoint
+    pub fn in_at(&self, number: u8) -> InEndpoint
         ensures { result ≡ in_kept self.now.software number }
     {
         if number == 0 {

@@ -5,6 +5,7 @@ ghost use Rattle.dwc2_regs.specs.declared.TheConstants.{GINTSTS_USBRST};
 ghost use Rattle.dwc2_regs.specs.Register.{gintsts, diepint};
 ghost use Rattle.device_table.specs.Read.{value_read};
 ghost use Rattle.device_table.specs.Words.{flag};
+ghost use Rattle.device_rings.specs.Capacities.{capacities_of};
 ghost use Rattle.device_relation.specs.PipeRelation.{IsSound};
 ghost use Rattle.device_relation.specs.Port.{port_of, after_handler};
 ghost use Rattle.device_relation.specs.Run.{with_table, run, served_by, rest_served, sent_noted, sent_served, last_acknowledged, last_served, acknowledged, cleared_ack, in_pipes_served};
@@ -31,6 +32,7 @@ impl<R: Regs + Drop> DevPort<R> {
         requires sound { IsSound FS4 (joint self.old) rings.old }
         requires has { Has 400 self.old.bank }
         ensures port { port_of (joint self.new) rings.new ≡ after_handler (port_of (joint self.old) rings.old) }
+        ensures capacities { capacities_of rings.new ≡ capacities_of rings.old }
         ensures wakes { (port_of (joint self.old) rings.old).bus.reset ≡ true → Wakes self.new.bank }
         ensures sound { IsSound FS4 (joint self.new) rings.new }
         ensures order { Goes (serving 0) over self.old self.new }

@@ -1,4 +1,6 @@
 -- Controller, software and rings agree after the call.
+use Rattle.device_rings.specs.Capacities.{capacities_of}
+use Rattle.device_rings.proofs.Capacities.{with_in}
 use Rattle.std.proofs.Common.{◌-◌, ◌≤◌, refl, sym, ap, ◌∙◌, arith}
 use Rattle.dwc2_device.specs.Driver.{Driver, joint}
 use Rattle.dwc2_device.specs.Writes.{clears_in}
@@ -43,3 +45,6 @@ end_transfer-requires-clause-stands g c =
     let at : IsIn a = is_in a c.requires.numbered c.if-addr-lt-IN.false in
     let from : 1 ≤ a - 128 = omega (arith, at.from) in
     in_stands (joint c.args.self.now) c.args.rings.now (a - 128) c.requires.sound from at.to
+
+pub returns-else-addr-lt-IN-clause-capacities : goal.returns-else-addr-lt-IN-clause-capacities
+returns-else-addr-lt-IN-clause-capacities g c = ap capacities_of c.end_transfer.ensures.rings ∙ with_in c.args.rings.now (c.args.addr - 128) _

@@ -1,4 +1,6 @@
 -- Controller, software and rings agree after the call.
+use Rattle.device_rings.specs.Capacities.{capacities_of}
+use Rattle.device_rings.proofs.Capacities.{without_bytes}
 use Rattle.std.proofs.Common.{ap, sym, ◌∙◌, arith, subst}
 use Rattle.device_relation.specs.Software.{Joint}
 use Rattle.device_relation.specs.Port.{port_of, without_endpoints}
@@ -27,3 +29,6 @@ returns-clause-spends g c = (
   c.close_ins.ensures.spends.1,
   λ start m. c.close_ins.ensures.spends.2 start (c.close_outs.ensures.spends.2 start m),
 )
+
+pub returns-clause-capacities : goal.returns-clause-capacities
+returns-clause-capacities g c = ap capacities_of c.clear_all.ensures ∙ without_bytes c.args.rings.now

@@ -1,4 +1,8 @@
 -- Controller, software and rings agree after the run.
+use Rattle.std.proofs.Common.{ap}
+use Rattle.device_rings.specs.Capacities.{capacities_of}
+use Rattle.device_relation.specs.Run.{Whole}
+use Rattle.dwc2_device.proofs.Capacities.{run_keeps}
 use Rattle.std.proofs.Common.{◌∙◌}
 use Rattle.device_relation.proofs.Stages.{reset_is}
 use Rattle.dwc2_device.specs.Driver.{whole}
@@ -13,3 +17,6 @@ returns-clause-sound g c = (run_ends (whole c.args.self.now c.args.rings.now) (w
 
 pub returns-clause-wakes : goal.returns-clause-wakes
 returns-clause-wakes g c = λ h. c.handle.ensures.wakes (reset_is c.args.self.now.bank.table ∙ h)
+
+pub returns-clause-capacities : goal.returns-clause-capacities
+returns-clause-capacities g c = ap (λ (w : Whole). capacities_of w.rings) c.handle.ensures.whole ∙ run_keeps (whole c.args.self.now c.args.rings.now)
