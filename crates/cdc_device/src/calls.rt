@@ -2,7 +2,7 @@
 ghost use Rattle.std.specs.Prelude.{◌≡◌, ◌≢◌, ◌+◌, ◌≤◌, ◌&&◌, []};
 ghost use Rattle.usb_pipe.specs.Said.{Fits, SaysAlone, reply_with};
 ghost use Rattle.usb_pipe.specs.Own.{IsPipe, phase_at, given, read as read_, call_accesses, work_accesses};
-ghost use Rattle.cdc_device_machine.specs.Port.{IsInRange, most_read, is_shut, is_closed, start_reply, line_reply, notification, with_flush, with_notice, call_reply, pipes_after_call};
+ghost use Rattle.cdc_device_machine.specs.Port.{read_size, is_shut, is_closed, start_reply, line_reply, notification, with_flush, with_notice, call_reply, pipes_after_call};
 
 use crate::device::{CdcDevice, DATA_IN, DATA_OUT, NOTICES};
 use crate::work::is_at_rest;
@@ -22,7 +22,6 @@ impl CdcDevice {
     ) -> Said
         requires sound { P.sound pipes.old }
         requires spare { work_accesses ≤ P.spare pipes.old }
-        requires range { IsInRange call.now }
         ensures reply { reply_with result bytes.new.items ≡ call_reply self.now.port (P.pipes pipes.old) call.now }
         ensures fits { Fits result bytes.new.items }
         ensures pipes { P.pipes pipes.new ≡ pipes_after_call self.now.interface (P.pipes pipes.old) call.now }
@@ -48,7 +47,6 @@ impl CdcDevice {
     pub fn call<P: DevPipes>(&self, pipes: &mut P, call: &CdcDeviceCall) -> Reply
         requires sound { P.sound pipes.old }
         requires spare { work_accesses ≤ P.spare pipes.old }
-        requires range { IsInRange call.now }
         ensures reply { result ≡ call_reply self.now.port (P.pipes pipes.old) call.now }
         ensures pipes { P.pipes pipes.new ≡ pipes_after_call self.now.interface (P.pipes pipes.old) call.now }
         ensures beside { P.beside pipes.old pipes.new }
@@ -93,21 +91,21 @@ fn is_pipe_closed<P: DevPipes>(pipes: &P, pipe: u8) -> bool
     matches!(pipes.phase(pipe), Phase::Closed)
 }
 
-/// Takes the first bytes that came.
+/// Takes the first bytes that came, at most so many and at most 1,024.
 fn read<P: DevPipes>(pipes: &mut P, most: u16, bytes: &mut ArrayVec<u8, 4096>) -> Said
     requires sound { P.sound pipes.old }
     requires open { phase_at (P.pipes pipes.old) 1 ≢ Phase.Closed }
-    requires most { most ≤ most_read }
     requires empty { bytes.old.items ≡ [] }
     ensures got { result ≡ Said.Got }
-    ensures bytes { bytes.new.items ≡ given (P.pipes pipes.old) most }
-    ensures pipes { P.pipes pipes.new ≡ read_ (P.pipes pipes.old) most }
+    ensures bytes { bytes.new.items ≡ given (P.pipes pipes.old) (read_size most) }
+    ensures pipes { P.pipes pipes.new ≡ read_ (P.pipes pipes.old) (read_size most) }
     ensures beside { P.beside pipes.old pipes.new }
     ensures sound { P.sound pipes.new }
     ensures spends { P.spare pipes.old ≤ P.spare pipes.new + work_accesses }
 {
     let mut cells = [0; MOST_READ];
-    let buf = &mut cells[..most as usize];
+    let size = (most as usize).min(MOST_READ);
+    let buf = &mut cells[..size];
     let count = pipes.read(DATA_OUT, buf);
     let _ = bytes.try_extend_from_slice(&buf[..count as usize]);
     Said::Got

@@ -1,7 +1,4 @@
 //! Sequences that are worked by hand from CDC PSTN 1.2 and USB 2.0, on pipes in memory.
-ghost use Rattle.std.specs.Prelude.{};
-ghost use Rattle.cdc_device_machine.specs.Port.{IsInRange};
-
 use crate::CdcDevice;
 use arrayvec::ArrayVec;
 use usb_packet::Setup;
@@ -20,9 +17,7 @@ fn opened() -> (CdcDevice, MemoryPipes) {
 }
 
 /// The call that writes these bytes.
-fn write(bytes: &[u8]) -> CdcDeviceCall
-    ensures { IsInRange result }
-{
+fn write(bytes: &[u8]) -> CdcDeviceCall {
     let mut data = ArrayVec::new();
     let _ = data.try_extend_from_slice(bytes);
     CdcDeviceCall::Write(data)
@@ -190,9 +185,7 @@ fn a_notification_has_its_bits(rt: HostRuntime) {
 }
 
 /// Whether a call is closed while no session stands.
-fn is_closed(call: &CdcDeviceCall) -> bool
-    requires { IsInRange call.now }
-{
+fn is_closed(call: &CdcDeviceCall) -> bool {
     let port = CdcDevice::new(INTERFACE);
     let mut pipes = MemoryPipes::new();
     let mut bytes = ArrayVec::new();

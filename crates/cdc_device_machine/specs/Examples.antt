@@ -116,6 +116,10 @@ pub record Transfers : Type 0 where
   pub read_all :
       Does (session idle (receiving (1 ∷ []) out.Rest false)) (Read 2) (reply.Got (record { items = 1 ∷ [] }))
       (session idle (receiving [] out.Rest false))
+  -- one call reads no more than 1,024 bytes
+  pub read_most :
+      Does (session idle (receiving (bytes 1025) out.Rest false)) (Read 1025) (reply.Got (record { items = bytes 1024 }))
+      (session idle (receiving (bytes 1) out.Rest false))
   pub avail : Does (session idle (receiving (1 ∷ 2 ∷ 3 ∷ []) out.Rest false)) Avail (reply.Held 3) (session idle (receiving (1 ∷ 2 ∷ 3 ∷ []) out.Rest false))
   pub line : Does resting Line (reply.LineIs 115200 0 0 8 0 0) resting
   -- each field in its place: rate, stop bits, parity, data bits, DTR, RTS

@@ -132,13 +132,13 @@ abbrev pub CallsHaveTheirPipes : Type 0
 CallsHaveTheirPipes =
     (interface : ℕ) (own : Own) (call : CdcDeviceCall) → KeepsOthers call own (pipes_after_call interface own call)
 
--- what is read is what was held first, and the rest stays
+-- what is read is what was held first, at most as many bytes as are asked for and at most 1,024, and the rest stays
 abbrev pub ReadsTheFirst : Type 0
 ReadsTheFirst =
     (interface most : ℕ) (port : Port) (own : Own) → phase_at own 0 ≢ Closed → phase_at own 1 ≢ Closed
     → (bytes : List ℕ)
     × (call_reply port own (Read most) ≡ reply.Got (record { items = bytes }))
-    × (length bytes ≤ most)
+    × (length bytes ≤ most) × (length bytes ≤ 1024)
     × (own.receives.pipe.held ≡ bytes ++ (pipes_after_call interface own (Read most)).receives.pipe.held)
 
 -- a flush starts what is queued, and nothing where nothing is

@@ -1,5 +1,5 @@
 -- A serial port as a device has it: what it holds, its requests, its work and its calls (CDC PSTN 1.2).
-use Rattle.std.specs.Prelude.{ℕ, ◌/◌, ◌%◌, List, [], ◌∷◌, Bool, true, false, not, ◌==◌, ◌&&◌, ◌||◌, ◌≤◌, nat_le, ⊤, if◌then◌else◌}
+use Rattle.std.specs.Prelude.{ℕ, ◌/◌, ◌%◌, List, [], ◌∷◌, Bool, true, false, not, ◌==◌, ◌&&◌, ◌||◌, nat_le, min, if◌then◌else◌}
 use Rattle.usb_packet.specs.declared.setup.Setup.{Setup}
 use Rattle.usb_pipe.specs.declared.decision.Decision.{Decision}
 use Rattle.usb_pipe.specs.declared.decision.Decision.TheVariants as decision
@@ -161,26 +161,20 @@ start_reply Clearing = reply.Closed
 abbrev pub line_reply : Port → Reply
 line_reply port = reply.LineIs port.coding.rate port.coding.stop port.coding.parity port.coding.bits port.dtr port.rts
 
+-- the most bytes that one call reads, whatever it asks for
+abbrev pub most_read : ℕ
+most_read = 1024
+
+abbrev pub read_size : ℕ → ℕ
+read_size most = min most most_read
+
 abbrev pub open_reply : Port → Own → CdcDeviceCall → Reply
 open_reply port own (Write bytes) = reply.Took (taken_of own data_in bytes.items)
-open_reply port own (Read most) = reply.Got (record { items = given own most })
+open_reply port own (Read most) = reply.Got (record { items = given own (read_size most) })
 open_reply port own Flush = start_reply (phase_at own data_in)
 open_reply port own Avail = reply.Held (held_at own data_out)
 open_reply port own Line = line_reply port
 open_reply port own (Notify bits) = start_reply (phase_at own notices)
-
--- the most bytes that one call reads
-abbrev pub most_read : ℕ
-most_read = 1024
-
--- a call whose numbers are as the commands have them
-abbrev pub IsInRange : CdcDeviceCall → Type 0
-IsInRange (Write bytes) = ⊤
-IsInRange (Read most) = most ≤ most_read
-IsInRange Flush = ⊤
-IsInRange Avail = ⊤
-IsInRange Line = ⊤
-IsInRange (Notify bits) = ⊤
 
 -- no call does anything while no session stands: then its data pipes are closed
 abbrev pub is_shut : Own → Bool
@@ -199,7 +193,7 @@ with_notice interface bits own =
 
 abbrev pub open_after_call : ℕ → Own → CdcDeviceCall → Own
 open_after_call interface own (Write bytes) = written own data_in bytes.items
-open_after_call interface own (Read most) = read own most
+open_after_call interface own (Read most) = read own (read_size most)
 open_after_call interface own Flush = with_flush own
 open_after_call interface own Avail = own
 open_after_call interface own Line = own
