@@ -60,7 +60,7 @@ group_owner row n =
 -- The classes that are built into the device. A group whose class isn't built stays the core's.
 abbrev pub is_built : Owner → Bool
 is_built Core = true
-is_built Cdc = false
+is_built Cdc = true
 is_built Hid = false
 is_built Msc = false
 is_built Midi = false

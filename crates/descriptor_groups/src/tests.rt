@@ -41,8 +41,15 @@ const CONFIGS: [(&[u8], &[Owner]); 4] = [
     ),
 ];
 
-/// Whether the interfaces from 0 on are of the groups of these owners, and belong to the core while no class is
-/// built.
+/// Whom an interface of a group belongs to: of all classes the serial port alone is built.
+fn built(owner: Owner) -> Owner {
+    match owner {
+        Owner::Cdc => Owner::Cdc,
+        Owner::Core | Owner::Hid | Owner::Msc | Owner::Midi => Owner::Core,
+    }
+}
+
+/// Whether the interfaces from 0 on are of the groups of these owners, and belong to those of them that are built.
 fn are_grouped(config: &[u8], owners: &[Owner]) -> bool {
     if config.len() < 9 || config.len() > 512 {
         return false;
@@ -52,7 +59,7 @@ fn are_grouped(config: &[u8], owners: &[Owner]) -> bool {
     let row = left.as_slice();
     let mut number = 0_u8;
     for owner in owners {
-        if group_owner(row, number) != *owner || owner_of_number(row, number) != Owner::Core {
+        if group_owner(row, number) != *owner || owner_of_number(row, number) != built(*owner) {
             return false;
         }
         number = number.wrapping_add(1);
@@ -71,7 +78,8 @@ fn groups(rt: HostRuntime) {
 #[test]
 fn leads(rt: HostRuntime) {
     let (row, _) = read_row(DATA_FIRST);
-    for class in [Owner::Core, Owner::Cdc, Owner::Hid, Owner::Msc, Owner::Midi] {
+    assert_eq!(rt; lead_number(row.as_slice(), Owner::Cdc), Some(1));
+    for class in [Owner::Core, Owner::Hid, Owner::Msc, Owner::Midi] {
         assert_eq!(rt; lead_number(row.as_slice(), class), None);
     }
 }

@@ -1,6 +1,5 @@
 mod Apart
 mod Faults
-pub mod Owners
 mod Thirty
 mod Served
 mod Grouped

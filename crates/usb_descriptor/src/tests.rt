@@ -403,21 +403,22 @@ fn accepted(rt: HostRuntime) {
     assert!(rt; set.string(1).is_none());
     assert!(rt; set.report().is_none());
     let expected = [
-        (0x81, EpKind::Interrupt, 16),
-        (0x01, EpKind::Bulk, 64),
-        (0x82, EpKind::Bulk, 64),
-        (0x02, EpKind::Bulk, 64),
-        (0x83, EpKind::Bulk, 64),
+        (0x81, EpKind::Interrupt, 16, Owner::Cdc),
+        (0x01, EpKind::Bulk, 64, Owner::Cdc),
+        (0x82, EpKind::Bulk, 64, Owner::Cdc),
+        (0x02, EpKind::Bulk, 64, Owner::Core),
+        (0x83, EpKind::Bulk, 64, Owner::Core),
     ];
     assert_eq!(rt; set.endpoints().len(), expected.len());
-    for (endpoint, (addr, kind, size)) in set.endpoints().iter().zip(expected) {
+    for (endpoint, (addr, kind, size, owner)) in set.endpoints().iter().zip(expected) {
         assert_eq!(rt; endpoint.addr, addr);
         assert_eq!(rt; endpoint.kind, kind);
         assert_eq!(rt; endpoint.size, size);
-        assert_eq!(rt; endpoint.owner, Owner::Core);
+        assert_eq!(rt; endpoint.owner, owner);
     }
-    assert!(rt; set.has(Owner::Core));
-    for class in [Owner::Cdc, Owner::Hid, Owner::Msc, Owner::Midi] {
+    assert!(rt; set.has(Owner::Core) && set.has(Owner::Cdc));
+    assert_eq!(rt; set.interface_of(Owner::Cdc), Some(0));
+    for class in [Owner::Hid, Owner::Msc, Owner::Midi] {
         assert!(rt; !set.has(class));
         assert_eq!(rt; set.interface_of(class), None);
     }
@@ -428,21 +429,25 @@ fn accepted(rt: HostRuntime) {
     assert!(rt;
         !set.has_endpoint(0, 0x82) && !set.has_endpoint(1, 0x81) && !set.has_endpoint(3, 0x81)
     );
-    assert_eq!(rt; set.owner_of_interface(0), Owner::Core);
-    assert_eq!(rt; set.owner_of_endpoint(0x81), Owner::Core);
+    assert_eq!(rt; set.owner_of_interface(0), Owner::Cdc);
+    assert_eq!(rt; set.owner_of_interface(1), Owner::Cdc);
+    assert_eq!(rt; set.owner_of_interface(2), Owner::Core);
+    assert_eq!(rt; set.owner_of_endpoint(0x81), Owner::Cdc);
+    assert_eq!(rt; set.owner_of_endpoint(0x83), Owner::Core);
     assert_eq!(rt; set.interface_of(Owner::Core), None);
 }
 
-/// Interface 1 of this set is a communications interface, but no class is built.
+/// Interface 1 of this set is the communications interface, and interface 0 is the data interface that its union names.
 #[test]
-fn unbuilt(rt: HostRuntime) {
+fn communications_interface(rt: HostRuntime) {
     let set = read(DEVICES[0].0, DATA_FIRST, &[], None).expect(&rt, "accepted");
-    assert_eq!(rt; set.interface_of(Owner::Cdc), None);
+    assert_eq!(rt; set.interface_of(Owner::Cdc), Some(1));
     assert_eq!(rt; set.endpoints().len(), 3);
     for endpoint in set.endpoints() {
-        assert_eq!(rt; endpoint.owner, Owner::Core);
+        assert_eq!(rt; endpoint.owner, Owner::Cdc);
     }
-    assert_eq!(rt; set.owner_of_interface(1), Owner::Core);
-    assert_eq!(rt; set.owner_of_endpoint(0x82), Owner::Core);
+    assert_eq!(rt; set.owner_of_interface(0), Owner::Cdc);
+    assert_eq!(rt; set.owner_of_interface(1), Owner::Cdc);
+    assert_eq!(rt; set.owner_of_endpoint(0x82), Owner::Cdc);
     assert!(rt; set.has_endpoint(0, 0x82) && set.has_endpoint(1, 0x81));
 }
