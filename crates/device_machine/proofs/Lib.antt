@@ -2,4 +2,3 @@ pub mod Slots
 pub mod Opens
 pub mod Apart
 pub mod Halts
-pub mod Told

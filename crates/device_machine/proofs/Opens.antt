@@ -1,46 +1,17 @@
--- The open endpoints and the session stay together.
-use Rattle.std.proofs.Common.{◌≡◌, ◌≢◌, ℕ, zero, suc, ◌+◌, ◌-◌, ◌<◌, List, [], ◌∷◌, length, map, replicate, Bool, true, false, ◌||◌, ◌==◌, if◌then◌else◌, Option, Some, None, refl, ap, sym, ◌∙◌, arith, subst}
+-- What a session opens is what it has.
+use Rattle.std.proofs.Common.{◌≡◌, ◌≢◌, ℕ, zero, suc, ◌+◌, ◌-◌, ◌<◌, List, [], ◌∷◌, length, map, replicate, Bool, true, false, ◌||◌, ◌==◌, if◌then◌else◌, refl, ap, sym, ◌∙◌, arith, subst}
 use Rattle.std.specs.Prelude.{slice_index_or, slice_set, nat_lt}
 use Rattle.std.specs.List.{list_any}
 use Rattle.std.proofs.lemmas.Bool.{or_right}
 use Rattle.std.proofs.lemmas.Bool.Decides.{nat_tests}
 use Rattle.std.proofs.lemmas.List.{get_or-set_other, length-set, length-map, length-replicate}
 use Rattle.std.proofs.lemmas.Grind.{get_or-set_at}
-use Rattle.usb_packet.specs.declared.bus.BusEvent.{BusEvent}
-use Rattle.usb_packet.specs.Setup.{fields_of}
-use Rattle.usb_pipe.specs.declared.decision.Decision.{Decision}
-use Rattle.usb_pipe.specs.declared.decision.Decision.TheVariants as decision
 use Rattle.usb_descriptor.specs.declared.endpoint.Endpoint.{Endpoint}
-use Rattle.usb_descriptor.specs.Set.{Set, is_addressed, endpoints_of, has_endpoint}
-use Rattle.usb_control.specs.declared.state.Effect.{Effect}
-use Rattle.usb_control.specs.declared.state.Effect.TheVariants as effect
-use Rattle.usb_control.specs.declared.state.Choice.{Choice}
-use Rattle.usb_control.specs.declared.state.Choice.TheVariants.{Own, Class}
-use Rattle.usb_control.specs.Table.{choice}
+use Rattle.usb_descriptor.specs.Set.{is_addressed}
 use Rattle.device_pipe.specs.OutPipe as out
-use Rattle.device_machine.specs.declared.control.Stage.{Stage}
-use Rattle.device_machine.specs.declared.control.Stage.TheVariants.{Sent, Came}
-use Rattle.device_machine.specs.Bus.{finished_stage, last_of}
-use Rattle.device_machine.specs.Packets.{data_packets}
-use Rattle.device_machine.specs.Pipes.{Pipes, OutSlot, InSlot, no_endpoint, no_out_slot, no_in_slot, pipes_unopened, out_slot, in_slot, with_out_slot, with_in_slot, is_out_open, in_hears, pipes_closed, out_closed, in_closed, with_endpoint_open, with_endpoints_open, session_pipes, out_opened as opened_out, in_opened as opened_in, with_halt, without_halt, without_halts}
-use Rattle.device_machine.specs.Session.{opened}
-use Rattle.device_machine.specs.Core.{Core, Transfer, Idle, Sending, Ending, Addressing, emptied, start, state_of, after_bus, with_stage, with_request, after_plain_irq, after_stages, new_address, after_irq, sending, advanced, with_data, staged, changed, begun, work_stage, work_request, with_control_worked, after_task}
-use Rattle.device_machine.specs.Laws.{endpoint_at, AreOf, IsOutOf, IsInOf, IsOpen}
-use Rattle.device_machine.proofs.Slots.{Keep, Opened, out_opened, in_opened, out_at, in_at, outs_count, ins_count, irq_keeps, task_keeps, bus_keeps, opened_of, halt_keeps, clear_keeps, clears_keep}
-
-keep_of : (endpoints : List Endpoint) (new old : Pipes) → Keep out_opened in_opened new old → AreOf endpoints old → AreOf endpoints new
-keep_of endpoints new old k h = record {
-  outs = λ n few. record {
-    endpoint = ap (λ (s : Opened). s.endpoint) (out_at out_opened in_opened new old k (suc n)) ∙ (h.outs n few).endpoint;
-    opens = ap (λ (s : Opened). s.opens) (out_at out_opened in_opened new old k (suc n)) ∙ (h.outs n few).opens;
-  };
-  ins = λ n few. record {
-    endpoint = ap (λ (s : Opened). s.endpoint) (in_at out_opened in_opened new old k (suc n)) ∙ (h.ins n few).endpoint;
-    opens = ap (λ (s : Opened). s.opens) (in_at out_opened in_opened new old k (suc n)) ∙ (h.ins n few).opens;
-  };
-  outs_count = outs_count out_opened in_opened new old k ∙ h.outs_count;
-  ins_count = ins_count out_opened in_opened new old k ∙ h.ins_count;
-}
+use Rattle.device_machine.specs.Pipes.{Pipes, OutSlot, InSlot, no_endpoint, no_out_slot, no_in_slot, pipes_unopened, out_slot, in_slot, with_out_slot, with_in_slot, is_out_open, in_hears, pipes_closed, out_closed, in_closed, with_endpoint_open, with_endpoints_open, session_pipes, out_opened as opened_out, in_opened as opened_in}
+use Rattle.device_machine.specs.Laws.{endpoint_at, AreOf, IsOutOf, IsInOf}
+use Rattle.device_machine.proofs.Slots.{Opened, out_opened, in_opened}
 
 -- Opening.
 
@@ -293,84 +264,3 @@ opened_from es p h = record {
 
 pub session_of : (es : List Endpoint) (p : Pipes) → length p.outs ≡ 15 → length p.ins ≡ 15 → AreOf es (session_pipes es p)
 session_of es p co ci = opened_from es (pipes_closed p) (closed_of p co ci)
-
--- Each step.
-
-pub first_open : (set : Set) → IsOpen set start
-first_open set = unopened_of
-
-pub after_bus_open : (set : Set) (core : Core) (e : BusEvent) → IsOpen set core → IsOpen set (after_bus core e)
-after_bus_open set core e h = keep_of (opened set core.session) (after_bus core e).pipes core.pipes (opened_of (after_bus core e).pipes core.pipes (bus_keeps core.bus core.pipes e)) h
-
-stage_open : (set : Set) (core : Core) (stage : Option Stage) → IsOpen set core → IsOpen set (with_stage core stage)
-stage_open set core None h = h
-stage_open set core (Some stage) h = h
-
-request_open : (set : Set) (core : Core) (bytes : Option (List ℕ)) → IsOpen set core → IsOpen set (with_request core bytes)
-request_open set core None h = h
-request_open set core (Some bytes) h = h
-
-stages_open : (set : Set) (core : Core) (address : Option ℕ) → IsOpen set core → IsOpen set (after_stages core address)
-stages_open set core None h =
-    let served = with_request (with_stage core (finished_stage core.bus.side)) (last_of core.bus.unserved) in
-    keep_of (opened set served.session) (after_plain_irq core).pipes served.pipes (opened_of (after_plain_irq core).pipes served.pipes (irq_keeps served.pipes))
-    (request_open set (with_stage core (finished_stage core.bus.side)) (last_of core.bus.unserved) (stage_open set core (finished_stage core.bus.side) h))
-stages_open set core (Some n) h = stage_open set core (finished_stage core.bus.side) h
-
-choose_open : (set : Set) (b : Bool) (x y : Core) → IsOpen set x → IsOpen set y → IsOpen set (if b then x else y)
-choose_open set true x y hx hy = hx
-choose_open set false x y hx hy = hy
-
-pub after_irq_open : (set : Set) (core : Core) → IsOpen set core → IsOpen set (after_irq core)
-after_irq_open set core h =
-    choose_open set core.bus.reset (emptied true) (after_stages core (new_address core.transfer (finished_stage core.bus.side))) unopened_of
-    (stages_open set core (new_address core.transfer (finished_stage core.bus.side)) h)
-
-sending_open : (set : Set) (core : Core) (packets : List (List ℕ)) → IsOpen set core → IsOpen set (sending core packets)
-sending_open set core [] h = h
-sending_open set core (packet ∷ packets) h = h
-
-advanced_open : (set : Set) (core : Core) (transfer : Transfer) (stage : Stage) → IsOpen set core → IsOpen set (advanced core transfer stage)
-advanced_open set core (Sending packets) Sent h = sending_open set core packets h
-advanced_open set core (Sending packets) (Came bytes) h = h
-advanced_open set core Ending stage h = h
-advanced_open set core (Addressing n) stage h = h
-advanced_open set core Idle stage h = h
-
-data_open : (set : Set) (core : Core) (bytes : List ℕ) (allowed : ℕ) → IsOpen set core → IsOpen set (with_data core bytes allowed)
-data_open set core bytes zero h = h
-data_open set core bytes (suc n) h = sending_open set core (data_packets bytes (suc n)) h
-
-staged_open : (set : Set) (core : Core) (d : Decision) (e : Effect) (allowed : ℕ) → IsOpen set core → IsOpen set (staged core d e allowed)
-staged_open set core (decision.Data bytes) e allowed h = data_open set core bytes.items allowed h
-staged_open set core (decision.Take n) e allowed h = h
-staged_open set core decision.Status e allowed h = h
-staged_open set core decision.Stall e allowed h = h
-
-changed_open : (set : Set) (core : Core) (e : Effect) → IsOpen set core → IsOpen set (changed set core e)
-changed_open set core effect.None h = h
-changed_open set core (effect.Address n) h = h
-changed_open set core (effect.Configure begins) h = session_of (opened set begins) core.pipes h.outs_count h.ins_count
-changed_open set core (effect.Halt a) h = keep_of (opened set core.session) (with_halt core.pipes a) core.pipes (halt_keeps core.pipes a) h
-changed_open set core (effect.Clear a) h = keep_of (opened set core.session) (without_halt core.pipes a) core.pipes (clear_keeps core.pipes a) h
-changed_open set core (effect.ClearInterface n) h =
-    keep_of (opened set core.session) (without_halts (has_endpoint set.config n) core.pipes (endpoints_of set.config)) core.pipes (clears_keep (has_endpoint set.config n) core.pipes (endpoints_of set.config)) h
-
-begun_open : (set : Set) (core : Core) (c : Choice) (allowed : ℕ) → IsOpen set core → IsOpen set (begun set core c allowed)
-begun_open set core (Own d e) allowed h = changed_open set (staged core d e allowed) e (staged_open set core d e allowed h)
-begun_open set core (Class o) allowed h = h
-
-work_stage_open : (set : Set) (core : Core) (stage : Option Stage) → IsOpen set core → IsOpen set (work_stage core stage)
-work_stage_open set core None h = h
-work_stage_open set core (Some stage) h = advanced_open set (record core { finished = None }) core.transfer stage h
-
-work_request_open : (set : Set) (core : Core) (bytes : Option (List ℕ)) → IsOpen set core → IsOpen set (work_request set core bytes)
-work_request_open set core None h = h
-work_request_open set core (Some bytes) h =
-    begun_open set (record core { request = None }) (choice set (state_of core) (fields_of bytes)) (fields_of bytes).length h
-
-pub after_task_open : (set : Set) (core : Core) → IsOpen set core → IsOpen set (after_task set core)
-after_task_open set core h =
-    let worked = with_control_worked set core in
-    keep_of (opened set worked.session) (after_task set core).pipes worked.pipes (opened_of (after_task set core).pipes worked.pipes (task_keeps worked.pipes))
-    (work_request_open set (work_stage core core.finished) (work_stage core core.finished).request (work_stage_open set core core.finished h))

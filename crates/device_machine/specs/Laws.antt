@@ -1,20 +1,15 @@
--- What holds at every moment of a run.
-use Rattle.std.specs.Prelude.{◌≡◌, ◌≢◌, ◌⊎◌, ℕ, suc, ◌+◌, ◌<◌, ◌≤◌, List, [], ◌∷◌, ◌==◌, Bool, true, false, length, Some, None, if◌then◌else◌}
+-- What the pipes of a device are as a whole: which are open, that each moves alone, and what each answers.
+use Rattle.std.specs.Prelude.{◌≡◌, ◌≢◌, ◌⊎◌, ℕ, suc, ◌+◌, ◌<◌, ◌≤◌, List, [], ◌∷◌, ◌==◌, Bool, true, false, length, if◌then◌else◌}
 use Rattle.std.specs.List.{list_any}
 use Rattle.usb_descriptor.specs.declared.endpoint.Endpoint.{Endpoint}
-use Rattle.usb_descriptor.specs.Set.{Set, is_addressed, is_core}
+use Rattle.usb_descriptor.specs.Set.{is_addressed, is_core}
 use Rattle.usb_packet.specs.declared.bus.Toggle.{Toggle}
 use Rattle.usb_packet.specs.declared.bus.BusAnswer.TheVariants as answers
-use Rattle.usb_packet.specs.declared.bus.BusEvent.{BusEvent}
 use Rattle.usb_packet.specs.declared.bus.BusEvent.TheVariants as event
-use Rattle.usb_control.specs.declared.state.Effect.TheVariants as effect
-use Rattle.usb_control.specs.Table.{is_halted}
 use Rattle.device_pipe.specs.OutPipe as out
 use Rattle.device_pipe.specs.InPipe as inward
-use Rattle.device_machine.specs.Pipes.{Pipes, OutSlot, InSlot, out_slot_answer, in_slot_answer, top_number, no_endpoint, out_slot, in_slot, is_out_open, out_hears, in_hears, is_open_at, pipes_unopened, pipes_after_irq, pipes_after_task}
-use Rattle.device_machine.specs.Bus.{Bus, hears, hears_packet, pipes_after, finished_stage}
-use Rattle.device_machine.specs.Core.{Core, state_of, after_bus, new_address, after_irq, with_control_worked, after_task, changed}
-use Rattle.device_machine.specs.Session.{opened}
+use Rattle.device_machine.specs.Pipes.{Pipes, OutSlot, InSlot, out_slot_answer, in_slot_answer, top_number, no_endpoint, out_slot, in_slot, is_out_open, out_hears, in_hears, pipes_after_irq, pipes_after_task}
+use Rattle.device_machine.specs.Bus.{Bus, hears, hears_packet, pipes_after}
 
 -- the endpoint that some have at an address, the last one where several do; `none` where none does
 abbrev pub endpoint_at : ℕ → Endpoint → List Endpoint → Endpoint
@@ -35,10 +30,6 @@ pub record AreOf (endpoints : List Endpoint) (pipes : Pipes) : Type 0 where
   pub ins : (n : ℕ) → n < top_number → IsInOf endpoints pipes n
   pub outs_count : length pipes.outs ≡ top_number
   pub ins_count : length pipes.ins ≡ top_number
-
--- the open endpoints other than 0 are those that the session has
-abbrev pub IsOpen : Set → Core → Type 0
-IsOpen set core = AreOf (opened set core.session) core.pipes
 
 -- A packet on one endpoint leaves the others: those with another number, and all of the other direction.
 pub record Apart (bus : Bus) (pipes : Pipes) : Type 0 where
@@ -79,36 +70,6 @@ pub record Serves (pipes : Pipes) : Type 0 where
   pub task_out : (n : ℕ) → (out_slot (pipes_after_task pipes) n).pipe ≡ out.after_task (out_slot pipes n).pipe
   pub task_in : (n : ℕ) → (in_slot (pipes_after_task pipes) n).pipe ≡ inward.after_task (in_slot pipes n).pipe
 
--- So do the device's own steps: but a handler run that sets a new address leaves the pipes as they are (9.4.6), and one that
--- serves a reset leaves nothing of them. A task works a request before it takes the pipes' notes.
-pub record CoreServes (set : Set) (core : Core) : Type 0 where
-  pub bus : (e : BusEvent) → (after_bus core e).pipes ≡ pipes_after core.bus core.pipes e
-  pub irq : core.bus.reset ≡ false → new_address core.transfer (finished_stage core.bus.side) ≡ None → (after_irq core).pipes ≡ pipes_after_irq core.pipes
-  pub addressed : core.bus.reset ≡ false → (n : ℕ) → new_address core.transfer (finished_stage core.bus.side) ≡ Some n → (after_irq core).pipes ≡ core.pipes
-  pub reset : core.bus.reset ≡ true → (after_irq core).pipes ≡ pipes_unopened
-  pub task : (after_task set core).pipes ≡ pipes_after_task (with_control_worked set core).pipes
-  pub quiet : core.request ≡ None → (after_task set core).pipes ≡ pipes_after_task core.pipes
-
--- Halts: what GET_STATUS tells of the endpoint at an address (9.4.5).
-abbrev pub tells_halt : Core → ℕ → Bool
-tells_halt core address = is_halted (state_of core) address
-
 -- an address of an endpoint other than 0 (9.6.6)
 abbrev pub IsAddress : ℕ → Type 0
 IsAddress address = ((n : ℕ) × (n < top_number) × (address ≡ suc n)) ⊎ ((n : ℕ) × (n < top_number) × (address ≡ 128 + suc n))
-
--- SET_FEATURE halts an open endpoint, CLEAR_FEATURE ends its halt, and either leaves the others (9.4.1, 9.4.9)
-pub record HaltsOne (set : Set) (core : Core) (address : ℕ) : Type 0 where
-  pub halts : is_open_at core.pipes address ≡ true → tells_halt (changed set core (effect.Halt address)) address ≡ true
-  pub clears : is_open_at core.pipes address ≡ true → tells_halt (changed set core (effect.Clear address)) address ≡ false
-  pub halts_others : (other : ℕ) → IsAddress other → other ≢ address → tells_halt (changed set core (effect.Halt address)) other ≡ tells_halt core other
-  pub clears_others : (other : ℕ) → IsAddress other → other ≢ address → tells_halt (changed set core (effect.Clear address)) other ≡ tells_halt core other
-
--- SET_CONFIGURATION ends all (9.1.1.5). Neither a packet, nor a handler run that finds no reset, nor a task that has no SETUP
--- changes any; a reset that is served ends all
-pub record KeepsHalts (set : Set) (core : Core) : Type 0 where
-  pub session : (begins : Bool) (address : ℕ) → IsAddress address → tells_halt (changed set core (effect.Configure begins)) address ≡ false
-  pub bus : (e : BusEvent) (address : ℕ) → tells_halt (after_bus core e) address ≡ tells_halt core address
-  pub irq : core.bus.reset ≡ false → (address : ℕ) → tells_halt (after_irq core) address ≡ tells_halt core address
-  pub reset : core.bus.reset ≡ true → (address : ℕ) → IsAddress address → tells_halt (after_irq core) address ≡ false
-  pub task : core.request ≡ None → (address : ℕ) → tells_halt (after_task set core) address ≡ tells_halt core address

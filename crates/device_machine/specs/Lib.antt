@@ -2,5 +2,4 @@ pub mod Pipes
 pub mod Bus
 pub mod Packets
 pub mod Session
-pub mod Core
 pub mod Laws

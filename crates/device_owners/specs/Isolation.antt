@@ -1,8 +1,8 @@
 -- Owners are kept apart, whatever their classes do.
-use Rattle.std.specs.Prelude.{◌≡◌, ℕ, true, List}
+use Rattle.std.specs.Prelude.{◌≡◌, List}
 use Rattle.usb_packet.specs.declared.bus.Owner.{Owner}
 use Rattle.usb_descriptor.specs.declared.limits.EpLimits.{EpLimits}
-use Rattle.usb_descriptor.specs.Set.{Set, endpoints_of, has_endpoint, owner_of_endpoint, owner_of_interface}
+use Rattle.usb_descriptor.specs.Set.{endpoints_of}
 use Rattle.usb_descriptor.specs.Served.{AreServed}
 use Rattle.usb_descriptor.specs.Owners.{AreGrouped}
 use Rattle.device_line.specs.declared.line.DevLine.{DevLine}

@@ -4,3 +4,6 @@ pub mod Ends
 pub mod Device
 pub mod Lines
 pub mod Isolation
+pub mod Steps
+pub mod NoCalls
+pub mod Classes

@@ -3,7 +3,7 @@ use Rattle.std.proofs.Common.{◌≡◌, ℕ, zero, suc, ◌+◌, ◌-◌, ◌<�
 use Rattle.std.specs.Prelude.{slice_index_or, nat_lt}
 use Rattle.std.specs.List.{list_any}
 use Rattle.usb_descriptor.specs.declared.endpoint.Endpoint.{Endpoint}
-use Rattle.usb_descriptor.specs.Set.{Set}
+use Rattle.usb_pipe.specs.Classes.{class_at}
 use Rattle.usb_control.specs.Table.{is_at}
 use Rattle.device_machine.specs.declared.control.Stage.{Stage}
 use Rattle.device_machine.specs.declared.control.Stage.TheVariants.{Sent, Came}
@@ -11,11 +11,11 @@ use Rattle.device_pipe.specs.OutPipe as out
 use Rattle.device_pipe.specs.InPipe as inward
 use Rattle.device_machine.specs.Bus.{finished_stage, last_of, pipes_after}
 use Rattle.device_machine.specs.Pipes.{Pipes, OutSlot, InSlot, no_out_slot, no_in_slot, out_slot, in_slot, with_out_slot, with_in_slot, is_open_at, is_out_open, in_hears, out_halted, in_halted, out_cleared, in_cleared, with_halt, without_halt, halted_addresses, pipes_closed, out_closed, in_closed, out_opened, in_opened, with_endpoint_open, with_endpoints_open, session_pipes, pipes_after_irq, pipes_after_task}
-use Rattle.device_machine.specs.Session.{opened}
-use Rattle.device_machine.specs.Core.{after_irq, Core, Transfer, Idle, Sending, Ending, Addressing, emptied, with_stage, with_request, after_stages, new_address, advanced, work_stage, work_request, with_control_worked}
-use Rattle.device_machine.specs.Laws.{IsAddress, IsOpen, CoreServes, HaltsOne, KeepsHalts}
+use Rattle.device_machine.specs.Laws.{IsAddress}
 use Rattle.device_machine.proofs.Slots.{Keep, out_at, in_at, out_set, in_set, either, out_opened as opened_of_out, in_opened as opened_of_in, outs_count, irq_keeps, task_keeps, bus_keeps, halts_of, halt_keeps, clear_keeps}
 use Rattle.device_machine.proofs.Opens.{session_of}
+use Rattle.device_owners.specs.Device.{Machinery, Device, Core, Transfer, Idle, Sending, Taking, Ending, Addressing, Foreign, emptied, with_stage, with_request, after_stages, new_address, core_after_irq, answered, advanced, known_endpoints, work_stage, work_request, with_control_worked}
+use Rattle.device_owners.specs.Steps.{IsOpen, CoreServes, HaltsOne, KeepsHalts}
 use Rattle.device_machine.proofs.Halts.{told_as, changed_out, changed_in, others_told, low_is, high_is, down}
 
 -- SET_FEATURE and CLEAR_FEATURE
@@ -48,9 +48,9 @@ halt_count p a = outs_count opened_of_out opened_of_in (with_halt p a) p (halt_k
 clear_count : (p : Pipes) (a : ℕ) → length (without_halt p a).outs ≡ length p.outs
 clear_count p a = outs_count opened_of_out opened_of_in (without_halt p a) p (clear_keeps p a)
 
-pub halts_one : (set : Set) (core : Core) (address : ℕ) → IsOpen set core → IsAddress address → HaltsOne set core address
-halts_one set core address h is =
-    let p = core.pipes in
+pub halts_one : {S : Type 0} (m : Machinery S) (d : Device S) (address : ℕ) → IsOpen m d → IsAddress address → HaltsOne m d address
+halts_one m d address h is =
+    let p = d.core.pipes in
     let co = h.outs_count in
     let ci = h.ins_count in
     record {
@@ -134,45 +134,57 @@ irq_halts core (Some n) = ap halted_addresses (stage_pipes core (finished_stage 
 
 -- A task that has no SETUP
 
-record Same (new old : Core) : Type 0 where
-  pipes : new.pipes ≡ old.pipes
-  request : new.request ≡ old.request
+record Same {S : Type 0} (new old : Device S) : Type 0 where
+  pipes : new.core.pipes ≡ old.core.pipes
+  request : new.core.request ≡ old.core.request
 
-advances : (core : Core) (transfer : Transfer) (stage : Stage) → Same (advanced core transfer stage) core
-advances core (Sending []) Sent = record { pipes = refl; request = refl }
-advances core (Sending (packet ∷ packets)) Sent = record { pipes = refl; request = refl }
-advances core (Sending packets) (Came bytes) = record { pipes = refl; request = refl }
-advances core Ending stage = record { pipes = refl; request = refl }
-advances core (Addressing n) stage = record { pipes = refl; request = refl }
-advances core Idle stage = record { pipes = refl; request = refl }
+answers_same : (core : Core) (taken : Bool) → ((answered core taken).pipes ≡ core.pipes) × ((answered core taken).request ≡ core.request)
+answers_same core true = (refl, refl)
+answers_same core false = (refl, refl)
 
-stage_same : (core : Core) (stage : Option Stage) → Same (work_stage core stage) core
-stage_same core None = record { pipes = refl; request = refl }
-stage_same core (Some stage) =
-    let s = advances (record core { finished = None }) core.transfer stage in
+advances : {S : Type 0} (m : Machinery S) (d : Device S) (transfer : Transfer) (stage : Stage) → Same (advanced m d transfer stage) d
+advances m d (Sending []) Sent = record { pipes = refl; request = refl }
+advances m d (Sending (packet ∷ packets)) Sent = record { pipes = refl; request = refl }
+advances m d (Taking o setup) Sent = record { pipes = refl; request = refl }
+advances m d Ending Sent = record { pipes = refl; request = refl }
+advances m d (Addressing n) Sent = record { pipes = refl; request = refl }
+advances m d Idle Sent = record { pipes = refl; request = refl }
+advances m d Foreign Sent = record { pipes = refl; request = refl }
+advances m d (Sending packets) (Came bytes) = record { pipes = refl; request = refl }
+advances m d (Taking o setup) (Came bytes) =
+    let same = answers_same d.core ((m.world.rules o).accepts (class_at d.classes o) setup bytes) in
+    record { pipes = same.0; request = same.1 }
+advances m d Ending (Came bytes) = record { pipes = refl; request = refl }
+advances m d (Addressing n) (Came bytes) = record { pipes = refl; request = refl }
+advances m d Idle (Came bytes) = record { pipes = refl; request = refl }
+advances m d Foreign (Came bytes) = record { pipes = refl; request = refl }
+
+stage_same : {S : Type 0} (m : Machinery S) (d : Device S) (stage : Option Stage) → Same (work_stage m d stage) d
+stage_same m d None = record { pipes = refl; request = refl }
+stage_same m d (Some stage) =
+    let s = advances m (record d { core = record d.core { finished = None } }) d.core.transfer stage in
     record { pipes = s.pipes; request = s.request }
 
-task_pipes : (set : Set) (core : Core) → core.request ≡ None → (with_control_worked set core).pipes ≡ core.pipes
-task_pipes set core none =
-    let mid = work_stage core core.finished in
-    let s = stage_same core core.finished in
-    ap (λ r. (work_request set mid r).pipes) (s.request ∙ none) ∙ s.pipes
+task_pipes : {S : Type 0} (m : Machinery S) (d : Device S) → d.core.request ≡ None → (with_control_worked m d).core.pipes ≡ d.core.pipes
+task_pipes m d none =
+    let mid = work_stage m d d.core.finished in
+    let s = stage_same m d d.core.finished in
+    ap (λ r. (work_request m mid r).core.pipes) (s.request ∙ none) ∙ s.pipes
 
-pub keeps_halts : (set : Set) (core : Core) → IsOpen set core → KeepsHalts set core
-keeps_halts set core h = record {
-  session = λ begins address is. session_calm (opened set begins) core.pipes (session_count begins) address is;
-  bus = λ e address. ap (list_any (is_at address)) (halts_of (pipes_after core.bus core.pipes e) core.pipes (bus_keeps core.bus core.pipes e));
-  irq = λ quiet address.
-      ap (λ b. list_any (is_at address) (halted_addresses (if b then emptied true else after_stages core (new_address core.transfer (finished_stage core.bus.side))).pipes)) quiet
-      ∙ ap (list_any (is_at address)) (irq_halts core (new_address core.transfer (finished_stage core.bus.side)));
-  reset = λ resets address is. ap (λ b. list_any (is_at address) (halted_addresses (if b then emptied true else after_stages core (new_address core.transfer (finished_stage core.bus.side))).pipes)) resets;
-  task = λ none address.
-      let worked = with_control_worked set core in
-      ap (list_any (is_at address)) (halts_of (pipes_after_task worked.pipes) worked.pipes (task_keeps worked.pipes) ∙ ap halted_addresses (task_pipes set core none));
-}
-  where
-    session_count : (begins : Bool) → length (session_pipes (opened set begins) core.pipes).outs ≡ 15
-    session_count begins = (session_of (opened set begins) core.pipes h.outs_count h.ins_count).outs_count
+pub keeps_halts : {S : Type 0} (m : Machinery S) (d : Device S) → IsOpen m d → KeepsHalts m d
+keeps_halts m d h =
+    let core = d.core in
+    record {
+      session = λ begins address is. session_calm (known_endpoints m begins) core.pipes (session_of (known_endpoints m begins) core.pipes h.outs_count h.ins_count).outs_count address is;
+      bus = λ e address. ap (list_any (is_at address)) (halts_of (pipes_after core.bus core.pipes e) core.pipes (bus_keeps core.bus core.pipes e));
+      irq = λ quiet address.
+          ap (λ b. list_any (is_at address) (halted_addresses (if b then emptied true else after_stages core (new_address core.transfer (finished_stage core.bus.side))).pipes)) quiet
+          ∙ ap (list_any (is_at address)) (irq_halts core (new_address core.transfer (finished_stage core.bus.side)));
+      reset = λ resets address is. ap (λ b. list_any (is_at address) (halted_addresses (if b then emptied true else after_stages core (new_address core.transfer (finished_stage core.bus.side))).pipes)) resets;
+      task = λ none address.
+          let w = with_control_worked m d in
+          ap (list_any (is_at address)) (halts_of (pipes_after_task w.core.pipes) w.core.pipes (task_keeps w.core.pipes) ∙ ap halted_addresses (task_pipes m d none));
+    }
 
 -- What each step of the device makes of its pipes.
 
@@ -186,15 +198,17 @@ address_pipes : (core : Core) (address : Option ℕ) (n : ℕ) → address ≡ S
 address_pipes core None n e = absurd (cc (e))
 address_pipes core (Some m) n e = stage_pipes core (finished_stage core.bus.side)
 
-by_reset : (core : Core) (b : Bool) → core.bus.reset ≡ b → (after_irq core).pipes ≡ (if b then emptied true else after_stages core (new_address core.transfer (finished_stage core.bus.side))).pipes
+by_reset : (core : Core) (b : Bool) → core.bus.reset ≡ b → (core_after_irq core).pipes ≡ (if b then emptied true else after_stages core (new_address core.transfer (finished_stage core.bus.side))).pipes
 by_reset core b e = ap (λ c. (if c then emptied true else after_stages core (new_address core.transfer (finished_stage core.bus.side))).pipes) e
 
-pub core_serves : (set : Set) (core : Core) → CoreServes set core
-core_serves set core = record {
-  bus = λ e. refl;
-  irq = λ quiet none. by_reset core false quiet ∙ stages_pipes core (new_address core.transfer (finished_stage core.bus.side)) none;
-  addressed = λ quiet n some. by_reset core false quiet ∙ address_pipes core (new_address core.transfer (finished_stage core.bus.side)) n some;
-  reset = λ resets. by_reset core true resets;
-  task = refl;
-  quiet = λ none. ap pipes_after_task (task_pipes set core none);
-}
+pub core_serves : {S : Type 0} (m : Machinery S) (d : Device S) → CoreServes m d
+core_serves m d =
+    let core = d.core in
+    record {
+      bus = λ e. refl;
+      irq = λ quiet none. by_reset core false quiet ∙ stages_pipes core (new_address core.transfer (finished_stage core.bus.side)) none;
+      addressed = λ quiet n some. by_reset core false quiet ∙ address_pipes core (new_address core.transfer (finished_stage core.bus.side)) n some;
+      reset = λ resets. by_reset core true resets;
+      task = refl;
+      quiet = λ none. ap pipes_after_task (task_pipes m d none);
+    }
