@@ -6,7 +6,7 @@ use Rattle.usb_descriptor.specs.Served.{AreServed}
 use Rattle.dwc2_regs.specs.declared.access.TheConstants.{FS4}
 use Rattle.device_machine.specs.Bus.{Bus, unconfigured}
 use Rattle.device_machine.specs.Pipes.{pipes_unopened}
-use Rattle.device_machine.specs.Core.{Idle}
+use Rattle.device_owners.specs.Device.{Idle}
 use Rattle.device_rings.specs.Rings.{Rings, out_ring, in_ring}
 use Rattle.device_rings.specs.Sizes.{rings_of}
 use Rattle.device_relation.specs.Software.{Joint}

@@ -11,7 +11,7 @@ use Rattle.device_machine.specs.declared.control.Side.{Side}
 use Rattle.device_machine.specs.declared.control.Side.TheVariants.{Off, Wait, Loaded, Last, Armed, Stall, Finished}
 use Rattle.device_machine.specs.Bus.{Bus, bus_after, after_setup, after_out, after_in, disturbed, takes, hears, hears_setup, hears_packet, serves}
 use Rattle.device_machine.specs.Pipes.{Pipes}
-use Rattle.device_machine.specs.Core.{Transfer, Idle, Sending, Ending, Addressing}
+use Rattle.device_owners.specs.Device.{Transfer, Idle, Sending, Taking, Ending, Addressing, Foreign}
 use Rattle.dwc2_regs.specs.declared.access.TheConstants.{FS4}
 use Rattle.device_relation.specs.PipeRelation.{pipes_of}
 use Rattle.device_relation.specs.Port.{Port}
@@ -97,6 +97,8 @@ status_stays : (t : Transfer) (a b : Side) → Follows a b → GivesStatus t a �
 status_stays (Addressing n) a b f g = f.host g
 status_stays Idle a b f g = tt
 status_stays (Sending packets) a b f g = tt
+status_stays (Taking o setup) a b f g = tt
+status_stays Foreign a b f g = tt
 status_stays Ending a b f g = tt
 
 fits_stays : (set : Set) (p : Port) (bus : Bus) (pipes : Pipes) (state : DevState) (t : Transfer) → Stays p.bus bus → Fits FS4 set p state t

@@ -1,15 +1,15 @@
 -- What the software keeps fits the driver's device after each call.
-use Rattle.std.proofs.Common.{◌≡◌, ℕ, List, [], ◌∷◌, Bool, false, Option, Some, None, refl, ap, ◌∙◌, subst}
+use Rattle.std.proofs.Common.{◌≡◌, ℕ, ◌≤◌, List, [], ◌∷◌, Bool, false, Option, Some, None, refl, ap, ◌∙◌, subst, arith}
 use Rattle.usb_descriptor.specs.Set.{Set}
 use Rattle.usbd_core.specs.declared.state.DevState.{DevState}
 use Rattle.device_machine.specs.declared.control.Stage.{Stage}
-use Rattle.device_machine.specs.declared.control.Stage.TheVariants.{Sent}
 use Rattle.device_machine.specs.declared.control.Side.{Side}
 use Rattle.device_machine.specs.declared.control.Side.TheVariants.{Wait}
 use Rattle.device_machine.specs.Bus.{Bus, is_empty}
 use Rattle.device_machine.specs.Pipes.{Pipes}
-use Rattle.device_machine.specs.Core.{Core, Transfer, Idle, Sending, Addressing, advanced}
+use Rattle.device_owners.specs.Device.{Core, Transfer, Idle, Sending, Addressing, sent_on}
 use Rattle.dwc2_regs.specs.declared.access.TheConstants.{FS4}
+use Rattle.device_rings.specs.Capacities.{capacities_of}
 use Rattle.device_relation.specs.PipeRelation.{IsSound}
 use Rattle.device_relation.specs.Port.{Port, with_side, addressed}
 use Rattle.dwc2_device.specs.Driver.{joint, Spends}
@@ -19,8 +19,11 @@ use Rattle.usbd_core.specs.Task.{GoesInOrder, Leaves}
 
 -- what a part of a task leaves, where the device is seen like this before
 pub leaves_by : (view old new : Device) (n : ℕ) → view ≡ old → IsSound FS4 (joint new.port) new.rings → Fits FS4 new.set (port_in new) new.state new.transfer
-    → Spends n view.port.bank new.port.bank → new.set ≡ view.set → GoesInOrder view.port new.port → Leaves FS4 n old new
-leaves_by view old new n v sound fits spends set order = subst (λ (d : Device). Leaves FS4 n d new) v ((sound, fits), spends, set, order)
+    → Spends n view.port.bank new.port.bank → new.set ≡ view.set → GoesInOrder view.port new.port → capacities_of new.rings ≡ capacities_of view.rings → Leaves FS4 n old new
+leaves_by view old new n v sound fits spends set order rooms = subst (λ (d : Device). Leaves FS4 n d new) v ((sound, fits), spends, set, order, rooms)
+
+pub leaves_within : (n k : ℕ) (old new : Device) → n ≤ k → Leaves FS4 n old new → Leaves FS4 k old new
+leaves_within n k old new h l = (l.0, (omega (arith, h, l.1.0), l.1.1, l.1.2), l.2, l.3, l.4)
 
 -- endpoint 0 has something else to do
 pub side_fits : (set : Set) (p : Port) (side : Side) (state : DevState) (before after : Transfer) → Fits FS4 set p state before → KeepsAddress side None (address_of after) → GivesStatus after side
@@ -63,7 +66,7 @@ packet_in (Some packet) = packet
 pub packet_sent : (bus : Bus) (ps : Pipes) (session : Bool) (finished : Option Stage) (request : Option (List ℕ)) (stage rest : List (List ℕ)) (packet : List ℕ) (last : Bool)
     → Some packet ≡ first_of stage → rest ≡ rest_of stage → last ≡ is_empty rest
     → record { bus = record bus { side = Wait packet last }; pipes = ps; session = session; finished = finished; request = request; transfer = Sending rest }
-    ≡ advanced (record { bus = bus; pipes = ps; session = session; finished = finished; request = request; transfer = Sending stage }) (Sending stage) Sent
+    ≡ sent_on (record { bus = bus; pipes = ps; session = session; finished = finished; request = request; transfer = Sending stage }) (Sending stage)
 unfolding packet_in
 packet_sent bus ps session finished request [] rest packet last e k l = absurd (cc e)
 packet_sent bus ps session finished request (x ∷ xs) rest packet last e k l =
@@ -72,6 +75,6 @@ packet_sent bus ps session finished request (x ∷ xs) rest packet last e k l =
 
 pub none_sent : (bus : Bus) (ps : Pipes) (session : Bool) (finished : Option Stage) (request : Option (List ℕ)) (stage : List (List ℕ)) → None ≡ first_of stage
     → record { bus = bus; pipes = ps; session = session; finished = finished; request = request; transfer = Idle }
-    ≡ advanced (record { bus = bus; pipes = ps; session = session; finished = finished; request = request; transfer = Sending stage }) (Sending stage) Sent
+    ≡ sent_on (record { bus = bus; pipes = ps; session = session; finished = finished; request = request; transfer = Sending stage }) (Sending stage)
 none_sent bus ps session finished request [] e = refl
 none_sent bus ps session finished request (x ∷ xs) e = absurd (cc e)

@@ -9,8 +9,8 @@ use Rattle.device_machine.specs.declared.control.Side.{Side}
 use Rattle.device_machine.specs.declared.control.Side.TheVariants.{Off, Wait, Loaded, Last, Armed, Stall, Finished}
 use Rattle.device_machine.specs.Bus.{Bus, finished_stage, loaded, last_of}
 use Rattle.device_machine.specs.Pipes.{Pipes, pipes_after_irq}
-use Rattle.device_machine.specs.Core as core
-use Rattle.device_machine.specs.Core.{Core, Transfer, Idle, Sending, Ending, Addressing, after_irq}
+use Rattle.device_owners.specs.Device as core
+use Rattle.device_owners.specs.Device.{Core, Transfer, Idle, Sending, Taking, Ending, Addressing, Foreign, core_after_irq}
 use Rattle.dwc2_regs.specs.declared.access.TheConstants.{FS4}
 use Rattle.device_rings.specs.Rings.{Rings}
 use Rattle.device_relation.specs.Relation.{is_idle, abstract}
@@ -127,12 +127,16 @@ status_loaded : (t : Transfer) (side : Side) → GivesStatus t side → GivesSta
 status_loaded (Addressing n) side g = host_loaded side g
 status_loaded Idle side g = tt
 status_loaded (Sending packets) side g = tt
+status_loaded (Taking o setup) side g = tt
+status_loaded Foreign side g = tt
 status_loaded Ending side g = tt
 
 status_off : (t : Transfer) → GivesStatus t Off
 status_off (Addressing n) = refl
 status_off Idle = tt
 status_off (Sending packets) = tt
+status_off (Taking o setup) = tt
+status_off Foreign = tt
 status_off Ending = tt
 
 -- no stage finished
@@ -215,7 +219,11 @@ transfer_settles ps set k bus (Came bytes) (Addressing n) f = absurd (cc (f.stat
 transfer_settles ps set k bus Sent Idle f = stage_settles ps set (on k Idle) bus Sent (last_of bus.unserved) refl f
 transfer_settles ps set k bus (Came bytes) Idle f = stage_settles ps set (on k Idle) bus (Came bytes) (last_of bus.unserved) refl f
 transfer_settles ps set k bus Sent (Sending packets) f = stage_settles ps set (on k (Sending packets)) bus Sent (last_of bus.unserved) refl f
+transfer_settles ps set k bus Sent (Taking o setup) f = stage_settles ps set (on k (Taking o setup)) bus Sent (last_of bus.unserved) refl f
+transfer_settles ps set k bus Sent Foreign f = stage_settles ps set (on k Foreign) bus Sent (last_of bus.unserved) refl f
 transfer_settles ps set k bus (Came bytes) (Sending packets) f = stage_settles ps set (on k (Sending packets)) bus (Came bytes) (last_of bus.unserved) refl f
+transfer_settles ps set k bus (Came bytes) (Taking o setup) f = stage_settles ps set (on k (Taking o setup)) bus (Came bytes) (last_of bus.unserved) refl f
+transfer_settles ps set k bus (Came bytes) Foreign f = stage_settles ps set (on k Foreign) bus (Came bytes) (last_of bus.unserved) refl f
 transfer_settles ps set k bus Sent Ending f = stage_settles ps set (on k Ending) bus Sent (last_of bus.unserved) refl f
 transfer_settles ps set k bus (Came bytes) Ending f = stage_settles ps set (on k Ending) bus (Came bytes) (last_of bus.unserved) refl f
 
@@ -234,6 +242,8 @@ no_address : (t : Transfer) → core.new_address t None ≡ None
 no_address (Addressing n) = refl
 no_address Idle = refl
 no_address (Sending packets) = refl
+no_address (Taking o setup) = refl
+no_address Foreign = refl
 no_address Ending = refl
 
 idle_settles : (ps : Pipes) (set : Set) (k : Kept) (bus : Bus) (heard : Bool) (next : Option ℕ) (side : Side) → finished_stage side ≡ None
@@ -296,17 +306,17 @@ is_plain p q =
     ∙ ap (λ (x : Option (List ℕ)). record p { reset = false; finished = None; request = x }) q.request
 
 run_settles : (set : Set) (k : Kept) (p : Port) → (p.heard || is_idle p.bus.side) ≡ true → Fits FS4 set p k.state k.transfer → Rests p k.finished k.request
-    → Settles set (after k (after_handler p)) (after_irq (with_kept p.pipes p.bus k)) (after_handler p)
+    → Settles set (after k (after_handler p)) (core_after_irq (with_kept p.pipes p.bus k)) (after_handler p)
 run_settles set k p h f r =
     let e : p ≡ plain p.pipes p.bus p.heard p.next_address = is_plain p f.quiet in
-    subst (λ (x : Port). Settles set (after k (after_handler x)) (after_irq (with_kept p.pipes p.bus k)) (after_handler x)) (sym e)
+    subst (λ (x : Port). Settles set (after k (after_handler x)) (core_after_irq (with_kept p.pipes p.bus k)) (after_handler x)) (sym e)
     (reset_settles p.pipes set k p.bus p.heard p.next_address p.bus.reset h (subst (λ (x : Port). Fits FS4 set x k.state k.transfer) e f) r)
 
 -- Over the driver.
 
 -- the device once the notes of its driver are taken
 pub record Heard (old new : Device) : Type 0 where
-  pub core : core_of new ≡ after_irq (core_of old)
+  pub core : core_of new ≡ core_after_irq (core_of old)
   pub agrees : Agrees FS4 new
 
 -- with this driver and these rings
@@ -319,7 +329,7 @@ quiet_sound d rings st = record {
   pipes = same_pipes d.bank.table d.bank.table d.software (quiet d).software rings (pipes_of (joint d) rings) (record { outs = refl; ins = refl; out_kepts = refl; in_kepts = refl; lie = λ n. refl }) st.pipes;
 }
 
-heard_is : (old : Device) (d : Driver) (rings : Rings) (new : Device) → IsSound FS4 (joint d) rings → Settles old.set (after (kept old) (port_of (joint d) rings)) (after_irq (core_of old)) (port_of (joint d) rings)
+heard_is : (old : Device) (d : Driver) (rings : Rings) (new : Device) → IsSound FS4 (joint d) rings → Settles old.set (after (kept old) (port_of (joint d) rings)) (core_after_irq (core_of old)) (port_of (joint d) rings)
     → new ≡ device old.set (quiet d) rings (after (kept old) (port_of (joint d) rings)) → Heard old new
 heard_is old d rings new st s e =
     let settled : Heard old (device old.set (quiet d) rings (after (kept old) (port_of (joint d) rings))) =
@@ -330,8 +340,8 @@ twice : (old : Device) (d : Driver) (rings : Rings) → Agrees FS4 old → IsSou
     → Heard old (after_note (after_note (with_both old d rings)))
 twice old d rings a st e =
     let s = run_settles old.set (kept old) (port_in old) a.sound.zero.side.first a.fits a.rests in
-    let settled : Settles old.set (after (kept old) (port_of (joint d) rings)) (after_irq (core_of old)) (port_of (joint d) rings) =
-    subst (λ (p : Port). Settles old.set (after (kept old) p) (after_irq (core_of old)) p) (sym e) s in
+    let settled : Settles old.set (after (kept old) (port_of (joint d) rings)) (core_after_irq (core_of old)) (port_of (joint d) rings) =
+    subst (λ (p : Port). Settles old.set (after (kept old) p) (core_after_irq (core_of old)) p) (sym e) s in
     heard_is old d rings (after_note (after_note (with_both old d rings))) st settled
     (heard_all (with_both old d rings) d.software.reset d.software.finished d.software.request settled.alone)
 

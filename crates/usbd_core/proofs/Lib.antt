@@ -7,5 +7,15 @@ pub mod Opens
 pub mod Packets
 pub mod Pipes
 pub mod Requests
+pub mod Seen
+pub mod Session
 pub mod Whole
 pub mod Ordered
+pub mod Found
+pub mod Shows
+pub mod Steps
+pub mod Views
+pub mod Wholes
+pub mod Worked
+pub mod Told
+pub mod Ended

@@ -1,6 +1,6 @@
 -- The endpoints of a set, opened one after another.
 use Rattle.std.proofs.Common.{◌≡◌, ◌==◌, ℕ, ◌<◌, ◌≤◌, List, [], ◌∷◌, inl, inr, Bool, true, false, ◌||◌, length, take, map, get_or, refl, sym, ap, ◌∙◌, arith, subst}
-use Rattle.std.specs.Prelude.{◌⊎◌}
+use Rattle.std.specs.Prelude.{◌⊎◌, filter}
 use Rattle.std.specs.List.{All, AllByRecursion, list_any}
 use Rattle.std.specs.Set.{is_member}
 use Rattle.std.proofs.lemmas.Bool.Decides.{nat_tests}
@@ -62,3 +62,8 @@ pub six : (es : List Endpoint) → AreServed (tops FS4) es → length es ≤ 6
 six es served =
     subst (λ n. n ≤ 6) (length-map es (λ (e : Endpoint). e.addr))
     (length-le_from_is_member nat_eq_equiv (map (λ e. e.addr) es) addresses served.distinct (each_one es served.each))
+
+-- a device that knows all owners opens all
+pub all_known : (es : List Endpoint) → filter (λ (e : Endpoint). true) es ≡ es
+all_known [] = refl
+all_known (e ∷ es) = ap (λ xs. e ∷ xs) (all_known es)

@@ -4,10 +4,14 @@ use Rattle.std.specs.Prelude.{◌⊎◌, if◌then◌else◌, nat_lt}
 use Rattle.std.specs.List.{AllByRecursion, list_any}
 use Rattle.std.proofs.lemmas.Bool.Decides.{nat_tests}
 use Rattle.std.proofs.lemmas.List.{take_all}
+use Rattle.usb_packet.specs.declared.bus.Owner.{Owner}
 use Rattle.usb_packet.specs.declared.setup.Setup.{Setup}
+use Rattle.usb_pipe.specs.Rules.{Rules}
+use Rattle.usb_pipe.specs.Classes.{Classes}
 use Rattle.usb_pipe.specs.declared.decision.Decision.{Decision}
 use Rattle.usb_control.specs.declared.state.CoreState.{CoreState}
 use Rattle.usb_control.specs.declared.state.Effect.{Effect}
+use Rattle.usb_control.specs.declared.state.Choice.{Choice}
 use Rattle.usb_control.specs.declared.state.Choice.TheVariants.{Own}
 use Rattle.usb_control.specs.Table.{choice}
 use Rattle.usb_descriptor.specs.declared.endpoint.Endpoint.{Endpoint}
@@ -15,13 +19,13 @@ use Rattle.usb_descriptor.specs.Set.{Set, is_addressed}
 use Rattle.dwc2_regs.specs.declared.access.TheConstants.{FS4}
 use Rattle.device_machine.specs.Pipes.{Pipes, out_slot, in_slot, is_out_open, in_hears, with_endpoint_open, with_endpoints_open, pipes_closed, without_halt_if, without_halts, is_open_at}
 use Rattle.device_machine.specs.Laws.{AreOf}
-use Rattle.device_machine.specs.Core.{state_of, staged, changed, begun}
+use Rattle.device_owners.specs.Device.{Core, core_state, staged, changed, begun}
 use Rattle.device_machine.proofs.Opens.{closed_of}
 use Rattle.device_rings.specs.Rings.{Rings}
 use Rattle.device_relation.specs.PipeRelation.{pipes_of}
 use Rattle.device_relation.specs.Software.{Joint}
 use Rattle.device_relation.specs.Port.{Port, with_endpoint}
-use Rattle.usbd_core.specs.Device.{Device, core_of}
+use Rattle.usbd_core.specs.Device.{Device, core_of, seen, machinery}
 use Rattle.usbd_core.specs.Task.{Leaves, with_endpoints, with_halt_ended_if, with_halts_ended}
 
 -- one more of a list is opened
@@ -75,17 +79,23 @@ pub one_cleared : (named : ℕ → Bool) (p : Port) (es : List Endpoint) (i : �
 one_cleared named p es i d h =
     ap (λ (q : Pipes). record p { pipes = q }) (sym (ap (without_halts named p.pipes) (take_more es i d h) ∙ halts_append named p.pipes (take i es) (get_or es i d)))
 
--- the request is begun behind its first stage
-pub begun_worked : (old mid new : Device) (set : Set) (d : Decision) (e : Effect) (setup : Setup) (state : CoreState) → set ≡ old.set → core_of mid ≡ staged (core_of old) d e setup.length
-    → core_of new ≡ changed mid.set (core_of mid) e → mid.set ≡ old.set → Own d e ≡ choice set state setup → state ≡ state_of (core_of old)
-    → core_of new ≡ begun old.set (core_of old) (choice old.set (state_of (core_of old)) setup) setup.length
-begun_worked old mid new set d e setup state v first next same chosen is =
-    next ∙ ap (λ s. changed s (core_of mid) e) same ∙ ap (λ k. changed old.set k e) first
-    ∙ ap (λ c. begun old.set (core_of old) c setup.length) (chosen ∙ ap (λ s. choice s state setup) v ∙ ap (λ st. choice old.set st setup) is)
+-- a request is begun as it was found
+pub begun_as : {S : Type 0} (rules : Owner → Rules S) (before : Classes S) (old : Device) (set : Set) (c : Choice) (setup : Setup) (state : CoreState) → set ≡ old.set → c ≡ choice set state setup
+    → state ≡ core_state (core_of old)
+    → begun (machinery rules old.set before) (seen old before) setup c ≡ begun (machinery rules old.set before) (seen old before) setup (choice old.set (core_state (core_of old)) setup)
+begun_as rules before old set c setup state v chosen is =
+    ap (begun (machinery rules old.set before) (seen old before) setup) (chosen ∙ ap (λ s. choice s state setup) v ∙ ap (λ st. choice old.set st setup) is)
 
-pub leaves_on : (old mid new : Device) → Leaves FS4 2 old mid → Leaves FS4 24 mid new → Leaves FS4 26 old new
+-- what it changes is changed behind its first stage
+pub begun_worked : {S : Type 0} (rules : Owner → Rules S) (before after : Classes S) (old mid new : Device) (d : Decision) (e : Effect) (setup : Setup) → core_of mid ≡ staged (core_of old) d e setup.length
+    → seen new after ≡ changed (machinery rules mid.set before) (seen mid before) e → mid.set ≡ old.set → seen new after ≡ begun (machinery rules old.set before) (seen old before) setup (Own d e)
+begun_worked rules before after old mid new d e setup first next same =
+    next ∙ ap (λ s. changed (machinery rules s before) (seen mid before) e) same
+    ∙ ap (λ (k : Core). changed (machinery rules old.set before) (record { core = k; classes = before }) e) first
+
+pub leaves_on : (old mid new : Device) → Leaves FS4 2 old mid → Leaves FS4 24 mid new → Leaves FS4 28 old new
 leaves_on old mid new one two =
-    (two.0, (omega (arith, one.1.0, two.1.0), two.1.1, λ start m. two.1.2 start (one.1.2 start m)), two.2 ∙ one.2, λ start k. two.3 start (one.3 start k))
+    (two.0, (omega (arith, one.1.0, two.1.0), two.1.1, λ start m. two.1.2 start (one.1.2 start m)), two.2 ∙ one.2, λ start k. two.3 start (one.3 start k), two.4 ∙ one.4)
 
 -- the end of a list
 pub taken_all : {A : Type 0} (xs : List A) (i : ℕ) → length xs ≤ i → take i xs ≡ xs

@@ -4,7 +4,7 @@ use Rattle.std.specs.Prelude.{nat_le, if◌then◌else◌, find, ◌==◌, ◌&&
 use Rattle.std.specs.List.{AllByRecursion}
 use Rattle.std.proofs.lemmas.Bool.Decides.{nat_tests}
 use Rattle.usb_packet.specs.declared.setup.Setup.{Setup}
-use Rattle.usb_packet.specs.declared.bus.Owner as declared
+use Rattle.usb_packet.specs.declared.bus.Owner.{Owner}
 use Rattle.usb_packet.specs.declared.bus.Owner.TheVariants as owner
 use Rattle.usb_pipe.specs.declared.decision.Decision.{Decision}
 use Rattle.usb_descriptor.specs.Set.{Set}
@@ -13,13 +13,15 @@ use Rattle.usb_control.specs.declared.state.Effect.{Effect}
 use Rattle.usb_control.specs.declared.state.Effect.TheVariants as effect
 use Rattle.usb_control.specs.declared.state.Choice.{Choice}
 use Rattle.usb_control.specs.declared.state.Choice.TheVariants.{Own, Class}
-use Rattle.usb_control.specs.Table.{Row, rows, is_row_of, chosen, choice, only, status, gives, given, handed, class_descriptor, is_zero, has_interface, has_endpoint, descriptor_of, owner_of, configuration_value, named}
+use Rattle.usb_control.specs.Table.{Row, rows, is_row_of, chosen, choice, only, status, given, handed, class_descriptor, is_zero, has_interface, has_endpoint, descriptor_of, owner_of, configuration_value, named}
 use Rattle.usb_packet.specs.Setup.{fields_of}
-use Rattle.device_machine.specs.declared.control.Stage.TheVariants.{Sent}
 use Rattle.device_machine.specs.Packets.{data_packets}
-use Rattle.device_machine.specs.Core.{Core, Sending, ending, state_of, sending, advanced, begun, work_request, with_request_worked}
+use Rattle.usb_pipe.specs.Rules.{Rules}
+use Rattle.usb_pipe.specs.Classes.{Classes}
+use Rattle.device_owners.specs.Device.{Core, Sending, ending, core_state, sending, sent_on, with_data, begun, work_request, with_request_worked}
+use Rattle.device_owners.specs.Device.{Device as Whole}
 use Rattle.device_relation.specs.Relation.{IsAddress}
-use Rattle.usbd_core.specs.Device.{Device, address_of, core_of}
+use Rattle.usbd_core.specs.Device.{machinery, address_of}
 
 abbrev IsNear : Choice → Type 0
 IsNear (Own d e) = IsAddress (address_of (ending e))
@@ -33,10 +35,10 @@ near_given : (bytes : Option (List ℕ)) → IsNear (given bytes)
 near_given None = tt
 near_given (Some bytes) = tt
 
-near_descriptor : (o : declared.Owner) → IsNear (class_descriptor o)
+near_descriptor : (o : Owner) → IsNear (class_descriptor o)
 near_descriptor o = tt
 
-near_handed : (o : declared.Owner) → IsNear (handed o)
+near_handed : (o : Owner) → IsNear (handed o)
 near_handed owner.Core = tt
 near_handed owner.Cdc = tt
 near_handed owner.Hid = tt
@@ -97,28 +99,20 @@ pub near : (set : Set) (state : CoreState) (setup : Setup) (d : Decision) (e : E
 near set state setup d e is = subst IsNear (sym is) (near_choice set state setup)
 
 -- a SETUP that was noted is worked once its note is taken
-pub request_worked : (set : Set) (core mid : Core) (bytes : List ℕ) (setup : Setup) → core.request ≡ Some bytes → mid ≡ record core { request = None } → setup ≡ fields_of bytes
-    → begun set mid (choice set (state_of mid) setup) setup.length ≡ with_request_worked set core
-request_worked set core mid bytes setup noted taken is =
-    ap (λ (x : Core). begun set x (choice set (state_of x) setup) setup.length) taken
-    ∙ ap (λ (x : Setup). begun set (record core { request = None }) (choice set (state_of core) x) x.length) is
-    ∙ ap (work_request set core) (sym noted)
+pub request_worked : {S : Type 0} (rules : Owner → Rules S) (set : Set) (first : Classes S) (d mid : Whole S) (bytes : List ℕ) (setup : Setup) → d.core.request ≡ Some bytes
+    → mid ≡ record d { core = record d.core { request = None } } → setup ≡ fields_of bytes
+    → begun (machinery rules set first) mid setup (choice set (core_state mid.core) setup) ≡ with_request_worked (machinery rules set first) d
+request_worked {S = S} rules set first d mid bytes setup noted taken is =
+    ap (λ (x : Whole S). begun (machinery rules set first) x setup (choice set (core_state x.core) setup)) taken
+    ∙ ap (λ (x : Setup). begun (machinery rules set first) (record d { core = record d.core { request = None } }) x (choice set (core_state d.core) x)) is
+    ∙ ap (work_request (machinery rules set first) d) (sym noted)
 
 -- the packets of a data stage that begins are sent
-sent_data : (core : Core) (packets : List (List ℕ)) → advanced (record core { transfer = Sending packets }) (Sending packets) Sent ≡ sending core packets
+sent_data : (core : Core) (packets : List (List ℕ)) → sent_on (record core { transfer = Sending packets }) (Sending packets) ≡ sending core packets
 sent_data core [] = refl
 sent_data core (packet ∷ packets) = refl
 
-data_given : (set : Set) (core : Core) (bytes : List ℕ) (packets : List (List ℕ)) (allowed : ℕ) (c : Choice) → gives bytes ≡ c → packets ≡ data_packets bytes allowed → 0 < allowed
-    → advanced (record core { transfer = Sending packets }) (Sending packets) Sent ≡ begun set core c allowed
-data_given set core bytes packets zero c is all some = absurd (omega arith)
-data_given set core bytes packets (suc n) c is all some =
-    sent_data core packets ∙ ap (sending core) all ∙ ap (λ (x : Choice). begun set core x (suc n)) is
-
-pub data_begun : (view old : Device) (state : CoreState) (bytes : List ℕ) (packets : List (List ℕ)) (setup : Setup) → view ≡ old → state ≡ state_of (core_of old)
-    → gives bytes ≡ choice view.set state setup → packets ≡ data_packets bytes setup.length → 0 < setup.length
-    → advanced (record (core_of view) { transfer = Sending packets }) (Sending packets) Sent ≡ begun old.set (core_of old) (choice old.set (state_of (core_of old)) setup) setup.length
-data_begun view old state bytes packets setup v same is all some =
-    data_given view.set (core_of view) bytes packets setup.length (choice view.set state setup) is all some
-    ∙ ap (λ (d : Device). begun d.set (core_of d) (choice d.set state setup) setup.length) v
-    ∙ ap (λ (x : CoreState). begun old.set (core_of old) (choice old.set x setup) setup.length) same
+pub data_given : (core : Core) (bytes : List ℕ) (packets : List (List ℕ)) (allowed : ℕ) → packets ≡ data_packets bytes allowed → 0 < allowed
+    → sent_on (record core { transfer = Sending packets }) (Sending packets) ≡ with_data core bytes allowed
+data_given core bytes packets zero all some = absurd (omega arith)
+data_given core bytes packets (suc n) all some = sent_data core packets ∙ ap (sending core) all

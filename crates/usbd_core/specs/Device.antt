@@ -10,7 +10,13 @@ use Rattle.device_machine.specs.declared.control.Stage.TheVariants.{Sent, Came}
 use Rattle.device_machine.specs.declared.control.Side.{Side}
 use Rattle.device_machine.specs.declared.control.Side.TheVariants.{Off, Wait, Loaded, Last, Armed, Stall, Finished}
 use Rattle.device_machine.specs.Bus.{Bus}
-use Rattle.device_machine.specs.Core.{Core, Transfer, Idle, Sending, Ending, Addressing}
+use Rattle.device_owners.specs.Device.{Core, Transfer, Idle, Sending, Taking, Ending, Addressing, Foreign}
+use Rattle.device_owners.specs.Device.{Device as Whole, Machinery}
+use Rattle.device_owners.specs.Knows.{knows_all}
+use Rattle.device_owners.specs.Calls.{no_calls}
+use Rattle.usb_pipe.specs.Rules.{Rules}
+use Rattle.usb_packet.specs.declared.bus.Owner.{Owner}
+use Rattle.usb_pipe.specs.Classes.{Classes}
 use Rattle.device_rings.specs.Rings.{Rings}
 use Rattle.device_relation.specs.Relation.{abstract}
 use Rattle.device_relation.specs.PipeRelation.{IsSound, pipes_of}
@@ -39,6 +45,7 @@ pub record Device : Type 0 where
 abbrev pub transfer_of : declared.Transfer → List (List ℕ) → Transfer
 transfer_of transfer.Idle packets = Idle
 transfer_of transfer.Data packets = Sending packets
+transfer_of (transfer.Take o setup) packets = Taking o setup
 transfer_of transfer.Status packets = Ending
 transfer_of (transfer.Address n) packets = Addressing n
 
@@ -56,6 +63,14 @@ core_of d = record {
   request = d.request;
   transfer = d.transfer;
 }
+
+-- the device that it is with its classes
+abbrev pub seen : {S : Type 0} → Device → Classes S → Whole S
+seen d classes = record { core = core_of d; classes = classes }
+
+-- with these classes it knows all owners; no step asks what the classes held at the start, or for their calls
+abbrev pub machinery : {S : Type 0} → (Owner → Rules S) → Set → Classes S → Machinery S
+machinery rules set classes = record { world = record { set = set; rules = rules; calls = λ o. no_calls; first = classes }; knows = knows_all }
 
 -- the device that its driver has, with the driver's notes
 abbrev pub port_in : Device → Port
@@ -80,6 +95,8 @@ abbrev pub address_of : Transfer → Option ℕ
 address_of (Addressing n) = Some n
 address_of Idle = None
 address_of (Sending packets) = None
+address_of (Taking o setup) = None
+address_of Foreign = None
 address_of Ending = None
 
 -- while endpoint 0 holds something, the driver keeps that address
@@ -107,6 +124,8 @@ abbrev pub GivesStatus : Transfer → Side → Type 0
 GivesStatus (Addressing n) side = is_for_host side ≡ true
 GivesStatus Idle side = Unit {0}
 GivesStatus (Sending packets) side = Unit {0}
+GivesStatus (Taking o setup) side = Unit {0}
+GivesStatus Foreign side = Unit {0}
 GivesStatus Ending side = Unit {0}
 
 -- the controller's numbers are those of its profile

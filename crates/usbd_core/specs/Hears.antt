@@ -2,7 +2,7 @@
 use Rattle.std.specs.Prelude.{false, Option, Some, None}
 use Rattle.usbd_core.specs.declared.state.DevState.{DevState}
 use Rattle.device_machine.specs.declared.control.Stage.TheVariants.{Sent, Came}
-use Rattle.device_machine.specs.Core.{Transfer, Idle, Sending, Ending, Addressing}
+use Rattle.device_owners.specs.Device.{Transfer, Idle, Sending, Taking, Ending, Addressing, Foreign}
 use Rattle.dwc2_device.specs.Driver.{Driver}
 use Rattle.dwc2_device.specs.Notes.{first_zero_note, without_zero_note}
 use Rattle.dwc2_device.specs.declared.notes.Note.{Note}
@@ -22,6 +22,8 @@ abbrev pub state_sent : DevState → Transfer → DevState
 state_sent state (Addressing n) = record state { addr = n }
 state_sent state Idle = state
 state_sent state (Sending packets) = state
+state_sent state (Taking o setup) = state
+state_sent state Foreign = state
 state_sent state Ending = state
 
 abbrev pub sent : Device → Device

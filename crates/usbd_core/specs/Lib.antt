@@ -3,3 +3,7 @@ pub mod Hears
 pub mod Laws
 pub mod Stage
 pub mod Task
+pub mod Shown
+pub mod Beside
+pub mod View
+pub mod Works

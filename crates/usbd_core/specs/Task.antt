@@ -1,8 +1,10 @@
 -- What a task needs of endpoint 0 before it gives it a stage, and what it does to the other endpoints.
-use Rattle.std.specs.Prelude.{◌≡◌, ℕ, Bool, true, IsTrue, List, Option, Some, None}
+use Rattle.std.specs.Prelude.{◌≡◌, if◌then◌else◌, ℕ, Bool, true, IsTrue, List, Option, Some, None}
 use Rattle.usb_descriptor.specs.declared.endpoint.Endpoint.{Endpoint}
 use Rattle.dwc2_regs.specs.declared.access.Profile.{Profile}
-use Rattle.device_machine.specs.Pipes.{with_endpoints_open, session_pipes, without_halt_if, without_halts}
+use Rattle.device_owners.specs.Device.{endpoint_in}
+use Rattle.device_machine.specs.Pipes.{Pipes, is_open_at, with_endpoints_open, session_pipes, without_halt_if, without_halts}
+use Rattle.device_rings.specs.Capacities.{capacities_of}
 use Rattle.device_relation.specs.PipeRelation.{IsSound}
 use Rattle.device_relation.specs.Port.{Port, may_start}
 use Rattle.access_order.specs.Phase.{serving}
@@ -22,9 +24,10 @@ Needs profile n d = Holds profile d × Has n d.port.bank
 abbrev pub GoesInOrder : Driver → Driver → Type 0
 GoesInOrder = Goes (serving 0) (serving 0)
 
--- and what it leaves: they agree again, at most so many accesses were made, in order, and the descriptors are the same
+-- and what it leaves: they agree again, at most so many accesses were made, in order, and the descriptors are the same, and the rings
+-- have the same room
 abbrev pub Leaves : Profile → ℕ → Device → Device → Type 0
-Leaves profile n old new = Holds profile new × Spends n old.port.bank new.port.bank × (new.set ≡ old.set) × GoesInOrder old.port new.port
+Leaves profile n old new = Holds profile new × Spends n old.port.bank new.port.bank × (new.set ≡ old.set) × GoesInOrder old.port new.port × (capacities_of new.rings ≡ capacities_of old.rings)
 
 -- A SETUP came since the last reset, and nothing is on its way on endpoint 0. What waits there brings no address.
 pub record IsFree (p : Port) : Type 0 where
@@ -49,3 +52,7 @@ with_halt_ended_if named p address = record p { pipes = without_halt_if named p.
 
 abbrev pub with_halts_ended : (ℕ → Bool) → Port → List Endpoint → Port
 with_halts_ended named p endpoints = record p { pipes = without_halts named p.pipes endpoints }
+
+-- the endpoint at an address, where it is open
+abbrev pub open_endpoint : Pipes → ℕ → Option Endpoint
+open_endpoint pipes a = if is_open_at pipes a then Some (endpoint_in pipes a) else None

@@ -3,7 +3,11 @@ ghost use Rattle.std.specs.Prelude.{◌≡◌, ℕ, List, take};
 ghost use Rattle.std.specs.List.{concat};
 ghost use Rattle.device_machine.specs.Packets.{data_packets};
 ghost use Rattle.dwc2_regs.specs.declared.access.TheConstants.{FS4};
-ghost use Rattle.usbd_core.specs.Laws.{BusKeeps};
+ghost use Rattle.usb_packet.specs.declared.bus.BusEvent.{BusEvent};
+ghost use Rattle.device_relation.specs.Laws.{IsEvent};
+ghost use Rattle.usbd_core.specs.Device.{Device};
+ghost use Rattle.usbd_core.specs.Laws.{BusKeeps, after_event};
+ghost use Rattle.usbd_core.specs.View.{IsWhole};
 
 /// The packets of a data stage for the host, joined in order, are the data cut to what the host allows.
 pub fn data_is_whole()
@@ -14,4 +18,10 @@ pub fn data_is_whole()
 /// what the event leaves is that core's next state, and they agree again.
 pub fn bus_keeps()
     ensures { BusKeeps FS4 }
+{}
+
+/// A bus event leaves what holds between two tasks: all agrees, the endpoints that are open are the session's, and the rings have
+/// the sizes of the set's endpoints.
+pub fn events_keep_whole()
+    ensures { (d : Device) (e : BusEvent) → IsWhole d → IsEvent e → IsWhole (after_event d e) }
 {}

@@ -1,10 +1,10 @@
 //! Calls of the driver that aren't handed the rings, said of the device that driver and rings are together.
-ghost use Rattle.std.specs.Prelude.{◌≡◌, ◌<◌, ◌≤◌, true, false, IsTrue};
+ghost use Rattle.std.specs.Prelude.{◌≡◌, ◌<◌, true, false, IsTrue};
 ghost use Rattle.usb_descriptor.specs.Served.{IsServed};
 ghost use Rattle.device_machine.specs.Pipes.{is_open_at};
 ghost use Rattle.dwc2_regs.specs.declared.access.TheConstants.{FS4};
 ghost use Rattle.device_relation.specs.PipeRelation.{IsSound};
-ghost use Rattle.device_relation.specs.Port.{port_of, may_start, started, stalled, addressed, halted_at, with_endpoint};
+ghost use Rattle.device_relation.specs.Port.{port_of, may_start, started, armed, stalled, addressed, halted_at, with_endpoint};
 ghost use Rattle.dwc2_device.specs.Driver.{joint, Has, Spends};
 ghost use Rattle.usbd_core.specs.Device.{tops};
 ghost use Rattle.usbd_core.specs.Task.{GoesInOrder};
@@ -28,6 +28,21 @@ pub fn start<R: Regs + Drop>(port: &mut DevPort<R>, rings: &DevRings, packet: &P
 {
     let _ = rings;
     port.start_ep0(packet, last);
+}
+
+/// Endpoint 0 takes a packet from the host.
+pub fn arm<R: Regs + Drop>(port: &mut DevPort<R>, rings: &DevRings)
+    requires sound { IsSound FS4 (joint port.old) rings.now }
+    requires free { IsTrue (may_start (port_of (joint port.old) rings.now).bus.side) }
+    requires heard { (port_of (joint port.old) rings.now).heard ≡ true }
+    requires has { Has 4 port.old.bank }
+    ensures port { port_of (joint port.new) rings.now ≡ armed (port_of (joint port.old) rings.now) }
+    ensures sound { IsSound FS4 (joint port.new) rings.now }
+    ensures order { GoesInOrder port.old port.new }
+    ensures spends { Spends 4 port.old.bank port.new.bank }
+{
+    let _ = rings;
+    port.arm_ep0();
 }
 
 /// Endpoint 0 answers STALL until the next SETUP.

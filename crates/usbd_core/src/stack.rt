@@ -1,15 +1,16 @@
-ghost use Rattle.std.specs.Prelude.{◌≡◌, ◌+◌, ◌≤◌, [], IfOk};
+ghost use Rattle.std.specs.Prelude.{◌≡◌, ◌+◌, ◌≤◌, ◌&&◌, not, [], false, IfOk};
 ghost use Rattle.std.specs.Borrow.{Lends, sem};
 ghost use Rattle.usb_descriptor.specs.Set.{IsAccepted};
 ghost use Rattle.dwc2_regs.specs.declared.access.TheConstants.{FS4};
 ghost use Rattle.device_table.specs.State.{first, opened};
-ghost use Rattle.device_machine.specs.Core.{start, state_of, after_irq};
+ghost use Rattle.device_owners.specs.Device.{emptied, core_state, core_after_irq, after_irq, classes_closed};
 ghost use Rattle.access_order.specs.Phase.{serving, over};
 ghost use Rattle.dwc2_device.specs.Driver.{Has, Spends};
 ghost use Rattle.dwc2_device.specs.Order.{Goes};
-ghost use Rattle.usbd_core.specs.Device.{tops, core_of, Agrees};
+ghost use Rattle.usbd_core.specs.Device.{tops, core_of, seen, machinery, Agrees};
 ghost use Rattle.usbd_core.specs.Task.{Holds};
 ghost use Rattle.usbd_core.specs.Hears.{forgotten, sent, after_note};
+ghost use Rattle.usbd_core.specs.View.{IsWhole};
 
 use crate::data::DataStage;
 use crate::state::{DevState, UNCONFIGURED};
@@ -25,6 +26,7 @@ use usb_compose::fifo_plan;
 use usb_control::CoreState;
 use usb_descriptor::laws::endpoints_are_served;
 use usb_descriptor::{DescSet, EpLimits};
+use usb_pipe::DevClasses;
 
 /// The highest endpoint numbers of an `FS4`, by which a set is accepted.
 const LIMITS: EpLimits = EpLimits {
@@ -74,8 +76,9 @@ impl<R: Regs + Drop> DevStack<R> {
         requires first { (R.bank regs).table ≡ first FS4 }
         requires still { (R.bank regs).due ≡ [] }
         ensures set { IfOk result (λ d. d.set ≡ set) }
-        ensures core { IfOk result (λ d. core_of d ≡ start) }
+        ensures core { IfOk result (λ d. core_of d ≡ emptied false) }
         ensures agrees { IfOk result (λ d. Agrees FS4 d) }
+        ensures whole { IfOk result (λ d. IsWhole d) }
         ensures table { IfOk result (λ d. d.port.bank.table ≡ opened FS4) }
         ensures still { IfOk result (λ d. d.port.bank.due ≡ []) }
     {
@@ -114,12 +117,36 @@ impl<R: Regs + Drop> DevStack<R> {
 
     /// One handler run, of at most 300 accesses: it serves a reset; or notes a stage that finished, sets the address where that
     /// was the status stage of SET_ADDRESS, and else notes the last SETUP or loads the packet that waits, and serves the other
-    /// endpoints. What it finds on those waits in the driver for a task.
-    pub fn irq(&mut self)
-        requires agrees { Agrees FS4 self.old }
+    /// endpoints. What it finds on those waits in the driver for a task. Where a reset ends a session, each class learns of it.
+    pub fn irq<C: DevClasses>(&mut self, classes: &mut C)
+        requires whole { IsWhole self.old }
         requires has { Has 400 self.old.port.bank }
-        ensures core { core_of self.new ≡ after_irq (core_of self.old) }
-        ensures agrees { Agrees FS4 self.new }
+        ensures seen { seen self.new (C.states classes.new) ≡ after_irq (machinery C.rules self.old.set (C.states classes.old)) (seen self.old (C.states classes.old)) }
+        ensures whole { IsWhole self.new }
+        ensures set { self.new.set ≡ self.old.set }
+        ensures order { Goes (serving 0) over self.old.port self.new.port }
+        ensures spends { Spends 300 self.old.port.bank self.new.port.bank }
+    {
+        let stood = self.state.configured;
+        self.run();
+        self.end_session(stood, classes);
+    }
+
+    /// Each class learns that a session ended, where one stood before and none does now.
+    fn end_session<C: DevClasses>(&self, stood: bool, classes: &mut C)
+        ensures { C.states classes.new ≡ classes_closed (machinery C.rules self.now.set (C.states classes.old)) (stood && not self.now.state.configured) (C.states classes.old) }
+    {
+        if stood && !self.state.configured {
+            classes.closed();
+        }
+    }
+
+    /// The driver's run, with its notes taken.
+    fn run(&mut self)
+        requires whole { IsWhole self.old }
+        requires has { Has 400 self.old.port.bank }
+        ensures core { core_of self.new ≡ core_after_irq (core_of self.old) }
+        ensures whole { IsWhole self.new }
         ensures set { self.new.set ≡ self.old.set }
         ensures order { Goes (serving 0) over self.old.port self.new.port }
         ensures spends { Spends 300 self.old.port.bank self.new.port.bank }
@@ -166,7 +193,7 @@ impl<R: Regs + Drop> DevStack<R> {
     /// The address, whether a session stands, and the halted endpoints.
     pub fn state(&self) -> CoreState
         requires agrees { Agrees FS4 self.now }
-        ensures { result ≡ state_of (core_of self.now) }
+        ensures { result ≡ core_state (core_of self.now) }
     {
         self.core_state()
     }
@@ -174,7 +201,7 @@ impl<R: Regs + Drop> DevStack<R> {
     /// What requests are decided by.
     pub(crate) fn core_state(&self) -> CoreState
         requires holds { Holds FS4 self.now }
-        ensures { result ≡ state_of (core_of self.now) }
+        ensures { result ≡ core_state (core_of self.now) }
     {
         CoreState {
             addr: self.state.addr,

@@ -1,6 +1,6 @@
 -- The status stage that brings an address waits.
 use Rattle.std.proofs.Common.{refl, ap, sym, ◌∙◌, subst}
-use Rattle.device_machine.specs.Core.{Addressing}
+use Rattle.device_owners.specs.Device.{Addressing}
 use Rattle.dwc2_regs.specs.declared.access.TheConstants.{FS4}
 use Rattle.device_table.specs.Bank.{Bank}
 use Rattle.device_relation.specs.Port.{Port, port_of, addressed}
@@ -20,4 +20,4 @@ returns-clause-leaves g c =
     (subst (λ (p : Port). Fits FS4 s.set p s.state (Addressing a)) (sym (c.bring.ensures.port ∙ ap (λ (p : Port). addressed p a) c.start.ensures.port))
     (address_fits s.set (port_of (joint s.port) s.rings) c.empty.result a s.state (transfer_of s.transfer s.stage) needs.0.1))
     (subst (λ (b : Bank). Spends 2 s.port.bank b) (sym c.bring.ensures.bank) c.start.ensures.spends) refl
-    (λ start k. c.bring.ensures.order start (c.start.ensures.order start k))
+    (λ start k. c.bring.ensures.order start (c.start.ensures.order start k)) refl

@@ -1,7 +1,7 @@
 -- A status stage waits.
 use Rattle.std.proofs.Common.{false, refl, sym, subst}
 use Rattle.device_machine.specs.declared.control.Side.TheVariants.{Wait}
-use Rattle.device_machine.specs.Core.{Ending}
+use Rattle.device_owners.specs.Device.{Ending}
 use Rattle.dwc2_regs.specs.declared.access.TheConstants.{FS4}
 use Rattle.device_relation.specs.Port.{Port, port_of}
 use Rattle.dwc2_device.specs.Driver.{joint}
@@ -18,4 +18,4 @@ returns-clause-leaves g c =
     leaves_by _ c.args.self.now new 2 c.self.view_is c.start.ensures.sound
     (subst (λ (p : Port). Fits FS4 s.set p s.state Ending) (sym c.start.ensures.port)
     (side_fits s.set (port_of (joint s.port) s.rings) (Wait c.empty.result false) s.state (transfer_of s.transfer s.stage) Ending needs.0.1 refl tt))
-    c.start.ensures.spends refl c.start.ensures.order
+    c.start.ensures.spends refl c.start.ensures.order refl

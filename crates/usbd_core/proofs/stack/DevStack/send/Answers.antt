@@ -1,8 +1,7 @@
 -- The next packet of a data stage waits, or the stage is over.
 use Rattle.std.proofs.Common.{refl, ap, sym, ◌∙◌, subst}
-use Rattle.device_machine.specs.declared.control.Stage.TheVariants.{Sent}
 use Rattle.device_machine.specs.declared.control.Side.TheVariants.{Wait}
-use Rattle.device_machine.specs.Core.{Core, Sending, advanced}
+use Rattle.device_owners.specs.Device.{Core, Sending, sent_on}
 use Rattle.dwc2_regs.specs.declared.access.TheConstants.{FS4}
 use Rattle.device_relation.specs.Port.{Port, port_of}
 use Rattle.dwc2_device.specs.Driver.{joint}
@@ -22,8 +21,8 @@ returns-in-Some-clause-core g c =
     ap (λ (q : Port). with q s.transfer) c.start.ensures.port
     ∙ ap (with (record p { bus = record p.bus { side = Wait c.in-Some.packet c.is_over-last.result } })) c.in-Data.is
     ∙ packet_sent p.bus p.pipes s.state.configured s.finished s.request s.stage rest c.in-Some.packet c.is_over-last.result c.in-Some.ensures.first c.in-Some.ensures.rest c.is_over-last.ensures
-    ∙ ap (λ (t : Kept). advanced (before t) (transfer_of t s.stage) Sent) (sym c.in-Data.is)
-    ∙ ap (λ (d : Device). advanced (core_of d) d.transfer Sent) c.self.view_is
+    ∙ ap (λ (t : Kept). sent_on (before t) (transfer_of t s.stage)) (sym c.in-Data.is)
+    ∙ ap (λ (d : Device). sent_on (core_of d) d.transfer) c.self.view_is
 
 pub returns-in-Some-clause-leaves : goal.returns-in-Some-clause-leaves
 returns-in-Some-clause-leaves g c =
@@ -35,7 +34,7 @@ returns-in-Some-clause-leaves g c =
     (subst (λ (t : Kept). Fits FS4 s.set (port_of (joint c.start.new.port) s.rings) s.state (transfer_of t rest)) (sym c.in-Data.is)
     (subst (λ (p : Port). Fits FS4 s.set p s.state (Sending rest)) (sym c.start.ensures.port)
     (side_fits s.set (port_of (joint s.port) s.rings) (Wait c.in-Some.packet c.is_over-last.result) s.state (transfer_of s.transfer s.stage) (Sending rest) needs.0.1 refl tt)))
-    c.start.ensures.spends refl c.start.ensures.order
+    c.start.ensures.spends refl c.start.ensures.order refl
 
 pub returns-in-None-clause-core : goal.returns-in-None-clause-core
 returns-in-None-clause-core g c =
@@ -43,5 +42,5 @@ returns-in-None-clause-core g c =
     let p = port_of (joint s.port) s.rings in
     let before : Kept → Core = λ t. record { bus = p.bus; pipes = p.pipes; session = s.state.configured; finished = s.finished; request = s.request; transfer = transfer_of t s.stage } in
     none_sent p.bus p.pipes s.state.configured s.finished s.request s.stage c.in-None.ensures.first
-    ∙ ap (λ (t : Kept). advanced (before t) (transfer_of t s.stage) Sent) (sym c.in-Data.is)
-    ∙ ap (λ (d : Device). advanced (core_of d) d.transfer Sent) c.self.view_is
+    ∙ ap (λ (t : Kept). sent_on (before t) (transfer_of t s.stage)) (sym c.in-Data.is)
+    ∙ ap (λ (d : Device). sent_on (core_of d) d.transfer) c.self.view_is
