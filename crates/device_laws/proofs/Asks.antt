@@ -32,7 +32,7 @@ Asks setup (Own (Data bytes) e) = asked_of setup ≡ None
 Asks setup (Own (Take n) e) = Unit {0}
 Asks setup (Own Status e) = (asked_of setup ≡ address_of e) × Bounded e
 Asks setup (Own Stall e) = Unit {0}
-Asks setup (Class owner) = Unit {0}
+Asks setup (Class owner) = asked_of setup ≡ None
 
 pub asks : (set : Set) (state : CoreState) (setup : Setup) → Asks setup (choice set state setup)
 asks set state setup = search rules

@@ -1,52 +1,62 @@
 -- What a host has after any steps of a control read.
-use Rattle.std.proofs.Common.{◌≡◌, inl, inr, ◌<◌, ℕ, List, [], ◌∷◌, ◌++◌, Bool, true, false, ◌&&◌, length, take, is_some, if◌then◌else◌, Option, Some, None, refl, sym, ap, subst, ◌∙◌, arith, append_assoc, length-append}
+use Rattle.std.proofs.Common.{◌≡◌, inl, inr, ◌<◌, ℕ, List, [], ◌∷◌, ◌++◌, Bool, true, false, ◌&&◌, length, take, map, is_some, if◌then◌else◌, Option, Some, None, refl, sym, ap, subst, ◌∙◌, arith, append_assoc, length-append}
 use Rattle.std.specs.List.{concat}
 use Rattle.std.proofs.lemmas.List.{append-nil, length-take}
 use Rattle.usb_packet.specs.declared.bus.BusAnswer.TheVariants as answers
 use Rattle.usb_packet.specs.Setup.{fields_of}
-use Rattle.usb_descriptor.specs.Set.{Set}
+use Rattle.usb_packet.specs.declared.bus.BusEvent.TheVariants as event
+use Rattle.usb_pipe.specs.Classes.{Classes}
 use Rattle.device_line.specs.declared.line.DevLine.{DevLine}
+use Rattle.device_line.specs.declared.line.DevLine.TheVariants.{Bus}
+use Rattle.device_line.specs.declared.line.Answer.TheVariants as answer
 use Rattle.device_machine.specs.Bus.{hears, hears_setup, after_setup, disturbed, finished_stage}
 use Rattle.device_machine.specs.Packets.{data_packets}
-use Rattle.device_machine.specs.Core.{Core, new_address}
-use Rattle.device_schedule.specs.Schedule.{core_after, core_state}
+use Rattle.device_owners.specs.Device.{World, Device, Machinery, Core, new_address}
+use Rattle.device_owners.specs.Lines.{whole, line_answer, after_line, after_lines, state_after, answer_to}
+use Rattle.device_owners.specs.Isolation.{Isolates}
+use Rattle.device_schedule.proofs.Answers.{state_after-more}
+use Rattle.device_laws.specs.World.{IsOfSet, core_after}
 use Rattle.device_laws.specs.Stages.{FullButLast, Last}
 use Rattle.device_laws.specs.Seen.{Attention, Deaf, Waiting, Listening, seen_of}
-use Rattle.device_laws.specs.Reading.{Step, Token, Handler, Work, line_of, Host, at_setup, host_step, host_after, core_steps, IsFront, IsDue, IsOver, IsRead, asked_core, ReadsAreDelivered}
+use Rattle.device_laws.specs.Reading.{Step, Token, Handler, Work, line_of, Host, at_setup, host_step, host_after, IsFront, IsDue, IsDueAnswer, IsOver, IsDelivered, IsRead, asked_lines, ReadsAreDelivered}
 use Rattle.device_laws.proofs.Stages.{stages}
 use Rattle.device_laws.proofs.Facts.{Attends}
 use Rattle.device_laws.proofs.Steps.{last_append, same_stage}
+use Rattle.device_laws.proofs.Whole.{of_parts, isolated, answer_is_whole}
 use Rattle.device_laws.proofs.Runs.{run_facts}
-use Rattle.device_laws.proofs.Progress.{host_of, Decides, Reads, heard, noted, waits, lacks, has, sent, told, over}
+use Rattle.device_laws.proofs.Progress.{host_of, Decides, tasks, after_tasks, Running, Reads, heard, noted, runs, waits, lacks, has, sent, told, over}
 use Rattle.device_laws.proofs.Delivery.{shift, answer_token, token_step, irq_step, task_step}
 
 -- where it stands tells what the host has, and what it is answered next
-front : (set : Set) (setup bytes : List ℕ) (packets : List (List ℕ)) (core : Core) (host : Host) → Reads set setup bytes packets core host → IsFront host.took packets
-front set setup bytes packets core host (heard base x xs side stage transfer l n d) = (packets, refl)
-front set setup bytes packets core host (noted base stage transfer d) = (packets, refl)
-front set setup bytes packets core host (waits base took packet rest e) = (packet ∷ rest, e)
-front set setup bytes packets core host (lacks base took packet rest e) = (packet ∷ rest, e)
-front set setup bytes packets core host (has base took packet rest e) = (rest, e)
-front set setup bytes packets core host (sent base took next rest e) = (next ∷ rest, e)
-front set setup bytes packets core host (told base took next rest e) = (next ∷ rest, e)
-front set setup bytes packets core host (over base took e) = ([], e ∙ sym (append-nil took))
+running_front : (packets : List (List ℕ)) (core : Core) (host : Host) → Running packets core host → IsFront host.took packets
+running_front packets core host (waits base took packet rest e) = (packet ∷ rest, e)
+running_front packets core host (lacks base took packet rest e) = (packet ∷ rest, e)
+running_front packets core host (has base took packet rest e) = (rest, e)
+running_front packets core host (sent base took next rest e) = (next ∷ rest, e)
+running_front packets core host (told base took next rest e) = (next ∷ rest, e)
+running_front packets core host (over base took e) = ([], e ∙ sym (append-nil took))
 
-due_heard : (set : Set) (setup bytes : List ℕ) (packets : List (List ℕ)) (core : Core) (host : Host) → Reads set setup bytes packets core host → IsDue packets host.took (answer_token core true)
-due_heard set setup bytes packets core host (heard base x xs side stage transfer l n d) = tt
-due_heard set setup bytes packets core host (noted base stage transfer d) = tt
-due_heard set setup bytes packets core host (waits base took packet rest e) = tt
-due_heard set setup bytes packets core host (lacks base took packet [] e) = inl (refl, ([], e ∙ shift took packet []))
-due_heard set setup bytes packets core host (lacks base took packet (next ∷ rest) e) = inl (refl, (next ∷ rest, e ∙ shift took packet (next ∷ rest)))
-due_heard set setup bytes packets core host (has base took packet [] e) = inr (took, refl, refl)
-due_heard set setup bytes packets core host (has base took packet (next ∷ rest) e) = inr (took, refl, refl)
-due_heard set setup bytes packets core host (sent base took next rest e) = tt
-due_heard set setup bytes packets core host (told base took next rest e) = tt
-due_heard set setup bytes packets core host (over base took e) = tt
+front : {S : Type 0} (world : World S) (setup bytes : List ℕ) (packets : List (List ℕ)) (d : Device S) (host : Host) → Reads world setup bytes packets d host → IsFront host.took packets
+front world setup bytes packets d host (heard base classes x xs side stage transfer l n g) = (packets, refl)
+front world setup bytes packets d host (noted base classes stage transfer g) = (packets, refl)
+front world setup bytes packets d host (runs core classes h r) = running_front packets core h r
 
-due : (set : Set) (setup bytes : List ℕ) (packets : List (List ℕ)) (core : Core) (host : Host) (hears : Bool) → Reads set setup bytes packets core host
-    → IsDue packets host.took (answer_token core hears)
-due set setup bytes packets core host true h = due_heard set setup bytes packets core host h
-due set setup bytes packets core host false h = tt
+running_due : (packets : List (List ℕ)) (core : Core) (host : Host) → Running packets core host → IsDue packets host.took (answer_token core true)
+running_due packets core host (waits base took packet rest e) = tt
+running_due packets core host (lacks base took packet [] e) = inl (refl, ([], e ∙ shift took packet []))
+running_due packets core host (lacks base took packet (next ∷ rest) e) = inl (refl, (next ∷ rest, e ∙ shift took packet (next ∷ rest)))
+running_due packets core host (has base took packet [] e) = inr (took, refl, refl)
+running_due packets core host (has base took packet (next ∷ rest) e) = inr (took, refl, refl)
+running_due packets core host (sent base took next rest e) = tt
+running_due packets core host (told base took next rest e) = tt
+running_due packets core host (over base took e) = tt
+
+due : {S : Type 0} (world : World S) (setup bytes : List ℕ) (packets : List (List ℕ)) (d : Device S) (host : Host) (hears : Bool) → Reads world setup bytes packets d host
+    → IsDue packets host.took (answer_token d.core hears)
+due world setup bytes packets d host true (heard base classes x xs side stage transfer l n g) = tt
+due world setup bytes packets d host true (noted base classes stage transfer g) = tt
+due world setup bytes packets d host true (runs core classes h r) = running_due packets core h r
+due world setup bytes packets d host false r = tt
 
 -- the first packets of a data stage
 concat-append : (xs ys : List (List ℕ)) → concat (xs ++ ys) ≡ concat xs ++ concat ys
@@ -73,20 +83,44 @@ all bytes asked (packet ∷ took) rest e (inl n) = nothing_left bytes (concat (p
 all bytes asked (packet ∷ took) [] e (inr short) = sym (bytes_of bytes asked (packet ∷ took) [] e ∙ append-nil (concat (packet ∷ took)))
 all bytes asked (packet ∷ took) (next ∷ rest) e (inr short) = absurd (no_more packet took rest next (subst (FullButLast 64) e (stages bytes asked).full) short)
 
+-- a host at the whole device
+abbrev pub host_along : {S : Type 0} → World S → Device S → Host → List Step → Host
+host_along world d host [] = host
+host_along world d host (step ∷ steps) =
+    host_along world (after_line (whole world) d (line_of step)) (host_step host step (line_answer (whole world) d (line_of step))) steps
+
 -- whatever steps follow
-steps_read : (set : Set) (setup bytes : List ℕ) (packets : List (List ℕ)) (core : Core) (host : Host) (steps : List Step) → packets ≡ data_packets bytes (fields_of setup).length
-    → 0 < (fields_of setup).length → Reads set setup bytes packets core host → Reads set setup bytes packets (core_steps set core steps) (host_after set core host steps)
-steps_read set setup bytes packets core host [] e some h = h
-steps_read set setup bytes packets core host (Token addr fate ∷ steps) e some h =
-    steps_read set setup bytes packets (core_after set core (line_of (Token addr fate))) (host_step core host (Token addr fate)) steps e some
-    (token_step set setup bytes packets core host (hears core.bus addr) fate h)
-steps_read set setup bytes packets core host (Handler ∷ steps) e some h =
-    steps_read set setup bytes packets (core_after set core (line_of Handler)) host steps e some (irq_step set setup bytes packets core host h)
-steps_read set setup bytes packets core host (Work ∷ steps) e some h =
-    steps_read set setup bytes packets (core_after set core (line_of Work)) host steps e some (task_step set setup bytes packets core host e some h)
+steps_read : {S : Type 0} (world : World S) (setup bytes : List ℕ) (packets : List (List ℕ)) (d : Device S) (host : Host) (steps : List Step) → packets ≡ data_packets bytes (fields_of setup).length
+    → 0 < (fields_of setup).length → Reads world setup bytes packets d host
+    → Reads world setup bytes packets (after_lines (whole world) d (map line_of steps)) (host_along world d host steps)
+steps_read world setup bytes packets d host [] e some h = h
+steps_read world setup bytes packets d host (Token addr fate ∷ steps) e some h =
+    steps_read world setup bytes packets (after_line (whole world) d (line_of (Token addr fate))) (host_step host (Token addr fate) (line_answer (whole world) d (line_of (Token addr fate)))) steps e some
+    (token_step world setup bytes packets d host (hears d.core.bus addr) fate h)
+steps_read world setup bytes packets d host (Handler ∷ steps) e some h =
+    steps_read world setup bytes packets (after_line (whole world) d (line_of Handler)) host steps e some (irq_step world setup bytes packets d host h)
+steps_read world setup bytes packets d host (Work ∷ steps) e some h =
+    steps_read world setup bytes packets (after_line (whole world) d (line_of Work)) host steps e some (task_step world setup bytes packets d host e some h)
+
+-- what a schedule answers is what the whole device does
+pub same_host : {S : Type 0} (world : World S) → Isolates world → (before : List DevLine) (host : Host) (steps : List Step)
+    → host_after world before host steps ≡ host_along world (state_after (whole world) before) host steps
+same_host world apart before host [] = refl
+same_host world apart before host (step ∷ steps) =
+    same_host world apart (before ++ line_of step ∷ []) (host_step host step (answer_to world before (line_of step))) steps
+    ∙ ap (λ (d : Device _). host_along world d (host_step host step (answer_to world before (line_of step))) steps) (state_after-more world before (line_of step))
+    ∙ ap (λ a. host_along world (after_line (whole world) (state_after (whole world) before) (line_of step)) (host_step host step a) steps) (sym (apart.answers before (line_of step)))
+
+after_lines-append : {S : Type 0} (m : Machinery S) (d : Device S) (one other : List DevLine) → after_lines m d (one ++ other) ≡ after_lines m (after_lines m d one) other
+after_lines-append m d [] other = refl
+after_lines-append m d (line ∷ one) other = after_lines-append m (after_line m d line) one other
+
+state_after-append : {S : Type 0} (world : World S) (one other : List DevLine)
+    → state_after (whole world) (one ++ other) ≡ after_lines (whole world) (state_after (whole world) one) other
+state_after-append world one other = after_lines-append (whole world) (state_after (whole world) []) one other
 
 -- where the SETUP was acknowledged
-pub acknowledged : (b : Bool) → (if b then answers.Ack else answers.NoAnswer) ≡ answers.Ack → b ≡ true
+pub acknowledged : (b : Bool) → answer.Bus (if b then answers.Ack else answers.NoAnswer) ≡ answer.Bus answers.Ack → b ≡ true
 acknowledged true e = refl
 acknowledged false e = absurd (cc)
 
@@ -105,41 +139,95 @@ pub none_noted : (request : Option (List ℕ)) → is_some request ≡ false →
 none_noted None e = refl
 none_noted (Some bytes) e = absurd (cc)
 
-begins_at : (set : Set) (setup bytes : List ℕ) (packets : List (List ℕ)) (core : Core) (unserved : List (List ℕ)) (reset : Bool) (request : Option (List ℕ)) → reset ≡ false → request ≡ None
-    → new_address core.transfer (finished_stage (disturbed core.bus.side)) ≡ None → Decides set setup bytes core
-    → Reads set setup bytes packets (record core { bus = after_setup (record core.bus { reset = reset; unserved = unserved }) setup; request = request }) (host_of [])
-begins_at set setup bytes packets core unserved true request r q n d = absurd (cc)
-begins_at set setup bytes packets core unserved false (Some other) r q n d = absurd (cc)
-begins_at set setup bytes packets core [] false None r q n d = heard (record core { bus = record core.bus { taken = false } }) setup [] (disturbed core.bus.side) core.finished core.transfer refl n d
-begins_at set setup bytes packets core (y ∷ ys) false None r q n d =
-    heard (record core { bus = record core.bus { taken = false } }) y (ys ++ setup ∷ []) (disturbed core.bus.side) core.finished core.transfer (last_append setup (y ∷ ys)) n d
+-- a device with a SETUP more
+abbrev pub set_up : Core → List ℕ → List (List ℕ) → Bool → Option (List ℕ) → Core
+set_up core setup unserved reset request = record core { bus = after_setup (record core.bus { reset = reset; unserved = unserved }) setup; request = request }
 
-begins : (set : Set) (lines : List DevLine) (addr : ℕ) (setup bytes : List ℕ) (packets : List (List ℕ)) → IsRead set lines addr setup bytes
-    → Reads set setup bytes packets (asked_core set lines addr setup) at_setup
-begins set lines addr setup bytes packets r =
-    let core = core_state set lines in
-    let h = run_facts set lines in
-    let heard : hears_setup core.bus addr true ≡ true = acknowledged (hears_setup core.bus addr true) r.heard in
+-- what it gives
+abbrev pub Gives : {S : Type 0} → World S → List ℕ → List ℕ → Core → Classes S → Type 0
+Gives world setup bytes core classes = (n : ℕ) → Decides world.set setup bytes (after_tasks world (of_parts core classes) n).core
+
+begins_at : {S : Type 0} (world : World S) (setup bytes : List ℕ) (packets : List (List ℕ)) (core : Core) (classes : Classes S) (unserved : List (List ℕ)) (reset : Bool) (request : Option (List ℕ))
+    → reset ≡ false → request ≡ None → new_address core.transfer (finished_stage (disturbed core.bus.side)) ≡ None
+    → Gives world setup bytes (set_up core setup unserved reset request) classes
+    → Reads world setup bytes packets (of_parts (set_up core setup unserved reset request) classes) (host_of [])
+begins_at world setup bytes packets core classes unserved true request r q n d = absurd (cc)
+begins_at world setup bytes packets core classes unserved false (Some other) r q n d = absurd (cc)
+begins_at world setup bytes packets core classes [] false None r q n d =
+    heard (record core { bus = record core.bus { taken = false } }) classes setup [] (disturbed core.bus.side) core.finished core.transfer refl n d
+begins_at world setup bytes packets core classes (y ∷ ys) false None r q n d =
+    heard (record core { bus = record core.bus { taken = false } }) classes y (ys ++ setup ∷ []) (disturbed core.bus.side) core.finished core.transfer (last_append setup (y ∷ ys)) n d
+
+-- What stands where a SETUP of a control read was acknowledged.
+pub record Acknowledged {S : Type 0} (world : World S) (lines : List DevLine) (addr : ℕ) (setup bytes : List ℕ) : Type 0 where
+  pub heard : hears_setup (core_after world lines).bus addr true ≡ true
+  pub hears : hears (core_after world lines).bus addr ≡ true
+  pub awake : (core_after world lines).bus.reset ≡ false
+  pub alone : (core_after world lines).request ≡ None
+  pub settled : new_address (core_after world lines).transfer (finished_stage (disturbed (core_after world lines).bus.side)) ≡ None
+  pub gives : (n : ℕ) → Decides world.set setup bytes (after_tasks world (after_line (whole world) (state_after (whole world) lines) (Bus (event.Setup addr setup true))) n).core
+
+asked_tasks : {S : Type 0} (world : World S) (lines : List DevLine) (addr : ℕ) (setup : List ℕ) (n : ℕ)
+    → state_after (whole world) (asked_lines lines addr setup ++ tasks n)
+    ≡ after_tasks world (after_line (whole world) (state_after (whole world) lines) (Bus (event.Setup addr setup true))) n
+asked_tasks world lines addr setup n =
+    state_after-append world (asked_lines lines addr setup) (tasks n)
+    ∙ ap (λ (d : Device _). after_tasks world d n) (state_after-more world lines (Bus (event.Setup addr setup true)))
+
+pub acknowledges : {S : Type 0} (world : World S) → IsOfSet world → (lines : List DevLine) (addr : ℕ) (setup bytes : List ℕ) → IsRead world lines addr setup bytes → Acknowledged world lines addr setup bytes
+acknowledges world of_set lines addr setup bytes r =
+    let core = core_after world lines in
+    let h = run_facts world of_set lines in
+    let line = Bus (event.Setup addr setup true) in
+    let heard : hears_setup core.bus addr true ≡ true = acknowledged (hears_setup core.bus addr true) (sym (answer_is_whole world of_set lines line) ∙ r.heard) in
     let hears : hears core.bus addr ≡ true = first_true (hears core.bus addr) _ heard in
-    let awake : core.bus.awake ≡ true = first_true core.bus.awake _ hears in
-    subst (λ b. Reads set setup bytes packets (record core { bus = if b then after_setup core.bus setup else core.bus }) at_setup) (sym heard)
-    (begins_at set setup bytes packets core core.bus.unserved core.bus.reset core.request
-    (no_reset core.bus.awake core.bus.reset (seen_of set lines).attention h.attends awake)
-    (none_noted core.request (h.noted ∙ r.alone))
-    (ap (new_address core.transfer) (same_stage core.bus.side) ∙ h.due ∙ r.settled)
-    r.gives)
+    record {
+      heard = heard;
+      hears = hears;
+      awake = no_reset core.bus.awake core.bus.reset (seen_of world lines).attention h.attends (first_true core.bus.awake _ hears);
+      alone = none_noted core.request (h.noted ∙ r.alone);
+      settled = ap (new_address core.transfer) (same_stage core.bus.side) ∙ h.due ∙ r.settled;
+      gives = λ n. subst (λ (d : Device _). Decides world.set setup bytes d.core) (asked_tasks world lines addr setup n) (r.gives n);
+    }
 
-pub reads_are_delivered : ReadsAreDelivered
-reads_are_delivered set lines addr setup bytes r steps =
+begins : {S : Type 0} (world : World S) → IsOfSet world → (lines : List DevLine) (addr : ℕ) (setup bytes : List ℕ) (packets : List (List ℕ)) → IsRead world lines addr setup bytes
+    → Reads world setup bytes packets (after_line (whole world) (state_after (whole world) lines) (Bus (event.Setup addr setup true))) at_setup
+begins {S} world of_set lines addr setup bytes packets r =
+    let d = state_after (whole world) lines in
+    let core = core_after world lines in
+    let a = acknowledges world of_set lines addr setup bytes r in
+    let By : Bool → Type 0 = λ b. Gives world setup bytes (record core { bus = if b then after_setup core.bus setup else core.bus }) d.classes
+    → Reads world setup bytes packets (of_parts (record core { bus = if b then after_setup core.bus setup else core.bus }) d.classes) at_setup in
+    subst By (sym a.heard)
+    (λ g. begins_at world setup bytes packets core d.classes core.bus.unserved core.bus.reset core.request a.awake a.alone a.settled g)
+    a.gives
+
+delivered : {S : Type 0} (world : World S) → IsOfSet world → (lines : List DevLine) (setup bytes : List ℕ) (d : Device S) (host : Host) → state_after (whole world) lines ≡ d
+    → Reads world setup bytes (data_packets bytes (fields_of setup).length) d host → IsDelivered world bytes (fields_of setup).length lines host
+delivered world of_set lines setup bytes d host same h =
     let asked = (fields_of setup).length in
     let packets = data_packets bytes asked in
-    let core = core_steps set (asked_core set lines addr setup) steps in
-    let host = host_after set (asked_core set lines addr setup) at_setup steps in
-    let h = steps_read set setup bytes packets (asked_core set lines addr setup) at_setup steps refl r.some (begins set lines addr setup bytes packets r) in
-    let few = front set setup bytes packets core host h in
+    let few = front world setup bytes packets d host h in
     record {
       front = few;
       joined = (concat few.0, bytes_of bytes asked host.took few.0 few.1);
       all = all bytes asked host.took few.0 few.1;
-      due = λ a ok. due set setup bytes packets core host (hears core.bus a) h;
+      due = λ a ok.
+          subst (λ t. IsDueAnswer packets host.took t) ((isolated world of_set).answers lines (Bus (event.In a 0 ok)))
+          (subst (λ (t : Device _). IsDue packets host.took (answer_token t.core (hears t.core.bus a))) (sym same) (due world setup bytes packets d host (hears d.core.bus a) h));
     }
+
+pub reads_are_delivered : {S : Type 0} (world : World S) → IsOfSet world → ReadsAreDelivered world
+reads_are_delivered world of_set lines addr setup bytes r steps =
+    let packets = data_packets bytes (fields_of setup).length in
+    let asked = asked_lines lines addr setup in
+    let first = after_line (whole world) (state_after (whole world) lines) (Bus (event.Setup addr setup true)) in
+    let more = state_after-more world lines (Bus (event.Setup addr setup true)) in
+    let behind = asked ++ map line_of steps in
+    let h = steps_read world setup bytes packets first at_setup steps refl r.some (begins world of_set lines addr setup bytes packets r) in
+    let same : host_along world first at_setup steps ≡ host_after world asked at_setup steps =
+    sym (same_host world (isolated world of_set) asked at_setup steps ∙ ap (λ (d : Device _). host_along world d at_setup steps) more) in
+    subst (λ host. IsDelivered world bytes (fields_of setup).length behind host) same
+    (delivered world of_set behind setup bytes (after_lines (whole world) first (map line_of steps)) (host_along world first at_setup steps)
+    (state_after-append world asked (map line_of steps) ∙ ap (λ (d : Device _). after_lines (whole world) d (map line_of steps)) more)
+    h)

@@ -7,7 +7,7 @@ use Rattle.device_machine.specs.declared.control.Side.{Side}
 use Rattle.device_machine.specs.declared.control.Side.TheVariants.{Off, Wait, Loaded, Last, Armed, Stall, Finished}
 use Rattle.device_machine.specs.Bus.{finished_stage, last_of}
 use Rattle.device_machine.specs.Pipes.{Pipes}
-use Rattle.device_machine.specs.Core.{Core, Transfer, Idle, Sending, Ending, Addressing, new_address}
+use Rattle.device_owners.specs.Device.{Core, Transfer, Idle, Sending, Taking, Ending, Addressing, Foreign, new_address}
 use Rattle.device_laws.specs.Seen.{Attention, Deaf, Waiting, Listening, Seen, asked_address}
 
 abbrev pub Attends : Bool → Bool → Attention → Type 0
@@ -26,16 +26,20 @@ abbrev pub Quiet : {A : Type 0} → Option A → Side → Type 0
 Quiet None side = Unit {0}
 Quiet (Some pending) side = side ≡ Off
 
--- a transfer runs; one with data for the host
+-- a transfer runs; one with data, for the host or for a class. The whole device runs no foreign one
 abbrev pub Runs : Transfer → Type 0
 Runs Idle = ⊥
 Runs (Sending packets) = Unit {0}
+Runs (Taking o setup) = Unit {0}
+Runs Foreign = ⊥
 Runs Ending = Unit {0}
 Runs (Addressing n) = Unit {0}
 
 abbrev pub Sends : Transfer → Type 0
 Sends Idle = ⊥
 Sends (Sending packets) = Unit {0}
+Sends (Taking o setup) = Unit {0}
+Sends Foreign = ⊥
 Sends Ending = ⊥
 Sends (Addressing n) = ⊥
 
@@ -57,6 +61,8 @@ Underway transfer (Finished (Came packet)) = Sends transfer
 abbrev pub Small : Transfer → Type 0
 Small Idle = Unit {0}
 Small (Sending packets) = Unit {0}
+Small (Taking o setup) = Unit {0}
+Small Foreign = ⊥
 Small Ending = Unit {0}
 Small (Addressing n) = n < 128
 
@@ -65,6 +71,8 @@ abbrev pub Serves : Option (List ℕ) → Transfer → List ℕ → Type 0
 Serves (Some bytes) transfer request = bytes ≡ request
 Serves None Idle request = Unit {0}
 Serves None (Sending packets) request = asked_address request ≡ None
+Serves None (Taking o setup) request = asked_address request ≡ None
+Serves None Foreign request = Unit {0}
 Serves None Ending request = asked_address request ≡ None
 Serves None (Addressing n) request = asked_address request ≡ Some n
 

@@ -1,4 +1,6 @@
 pub mod Stages
+pub mod Whole
+pub mod Plain
 pub mod Facts
 pub mod Asks
 pub mod Steps

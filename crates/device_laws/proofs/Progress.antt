@@ -1,5 +1,5 @@
 -- Where a control read stands, and what each step makes of it.
-use Rattle.std.proofs.Common.{◌≡◌, ℕ, zero, suc, List, [], ◌∷◌, ◌++◌, false, length, if◌then◌else◌, Option, Some, None, refl, sym, ap, ◌∙◌}
+use Rattle.std.proofs.Common.{◌≡◌, ℕ, zero, suc, List, [], ◌∷◌, ◌++◌, false, length, replicate, if◌then◌else◌, Option, Some, None, refl, sym, ap, ◌∙◌}
 use Rattle.usb_packet.specs.declared.bus.Toggle.{Toggle}
 use Rattle.usb_packet.specs.declared.bus.Toggle.TheVariants.{D0, D1}
 use Rattle.usb_packet.specs.declared.bus.BusAnswer.TheVariants as answers
@@ -15,9 +15,13 @@ use Rattle.device_machine.specs.declared.control.Stage.TheVariants.{Sent}
 use Rattle.device_machine.specs.declared.control.Side.{Side}
 use Rattle.device_machine.specs.declared.control.Side.TheVariants.{Off, Wait, Loaded, Last, Armed, Finished}
 use Rattle.device_machine.specs.Bus.{is_empty, finished_stage, last_of}
-use Rattle.device_machine.specs.Core.{Core, Transfer, Sending, state_of, new_address, with_pipes_served, with_pipes_worked}
-use Rattle.device_machine.specs.Pipes.{Pipes, pipes_after_irq, pipes_after_task, halted_addresses}
-use Rattle.device_machine.proofs.Slots.{irq_keeps, task_keeps, halts_of}
+use Rattle.usb_pipe.specs.Classes.{Classes}
+use Rattle.device_line.specs.declared.line.DevLine.{DevLine}
+use Rattle.device_line.specs.declared.line.DevLine.TheVariants.{Task}
+use Rattle.device_machine.specs.Pipes.{Pipes, halted_addresses}
+use Rattle.device_owners.specs.Device.{World, Device, Core, Transfer, Sending, core_state, new_address}
+use Rattle.device_owners.specs.Lines.{whole, after_lines}
+use Rattle.device_laws.proofs.Whole.{of_parts}
 use Rattle.device_laws.specs.Reading.{Host, takes, gets, toggle_at}
 
 -- a device with a SETUP that no task has taken
@@ -46,50 +50,57 @@ abbrev pub ready : List ℕ → List (List ℕ) → Side
 ready packet rest = if is_empty rest then Last packet else Loaded packet
 
 abbrev pub Decides : Set → List ℕ → List ℕ → Core → Type 0
-Decides set setup bytes base = choice set (state_of base) (fields_of setup) ≡ Own (Data (record { items = bytes })) effect.None
+Decides set setup bytes base = choice set (core_state base) (fields_of setup) ≡ Own (Data (record { items = bytes })) effect.None
 
-pub data Reads (set : Set) (setup bytes : List ℕ) (packets : List (List ℕ)) : Core → Host → Type 0 where
-  -- no handler run has served the SETUP
-  heard : (base : Core) (x : List ℕ) (xs : List (List ℕ)) (side : Side) (stage : Option Stage) (transfer : Transfer) → last_of (x ∷ xs) ≡ Some setup
-      → new_address transfer (finished_stage side) ≡ None → Decides set setup bytes base → Reads set setup bytes packets (starting base (x ∷ xs) side stage None transfer) (host_of [])
-  -- no task has taken it
-  noted : (base : Core) (stage : Option Stage) (transfer : Transfer) → Decides set setup bytes base → Reads set setup bytes packets (starting base [] Off stage (Some setup) transfer) (host_of [])
+-- where a data stage stands, whatever the request is
+pub data Running (packets : List (List ℕ)) : Core → Host → Type 0 where
   -- a packet waits for a handler run
   waits : (base : Core) (took : List (List ℕ)) (packet : List ℕ) (rest : List (List ℕ)) → packets ≡ took ++ packet ∷ rest
-      → Reads set setup bytes packets (running base (Wait packet (is_empty rest)) None rest (toggle_at (length took))) (host_of took)
+      → Running packets (running base (Wait packet (is_empty rest)) None rest (toggle_at (length took))) (host_of took)
   -- it is loaded, and the host lacks it; or has it, and its acknowledgement was lost
   lacks : (base : Core) (took : List (List ℕ)) (packet : List ℕ) (rest : List (List ℕ)) → packets ≡ took ++ packet ∷ rest
-      → Reads set setup bytes packets (running base (ready packet rest) None rest (toggle_at (length took))) (host_of took)
+      → Running packets (running base (ready packet rest) None rest (toggle_at (length took))) (host_of took)
   has : (base : Core) (took : List (List ℕ)) (packet : List ℕ) (rest : List (List ℕ)) → packets ≡ (took ++ packet ∷ []) ++ rest
-      → Reads set setup bytes packets (running base (ready packet rest) None rest (toggle_at (length took))) (host_of (took ++ packet ∷ []))
+      → Running packets (running base (ready packet rest) None rest (toggle_at (length took))) (host_of (took ++ packet ∷ []))
   -- the host acknowledged it; a handler run noted that; and it was the last one
   sent : (base : Core) (took : List (List ℕ)) (next : List ℕ) (rest : List (List ℕ)) → packets ≡ took ++ next ∷ rest
-      → Reads set setup bytes packets (running base (Finished Sent) None (next ∷ rest) (toggle_at (length took))) (host_of took)
+      → Running packets (running base (Finished Sent) None (next ∷ rest) (toggle_at (length took))) (host_of took)
   told : (base : Core) (took : List (List ℕ)) (next : List ℕ) (rest : List (List ℕ)) → packets ≡ took ++ next ∷ rest
-      → Reads set setup bytes packets (running base Off (Some Sent) (next ∷ rest) (toggle_at (length took))) (host_of took)
-  over : (base : Core) (took : List (List ℕ)) → packets ≡ took → Reads set setup bytes packets (running base Armed None [] (toggle_at (length took))) (host_of took)
+      → Running packets (running base Off (Some Sent) (next ∷ rest) (toggle_at (length took))) (host_of took)
+  over : (base : Core) (took : List (List ℕ)) → packets ≡ took → Running packets (running base Armed None [] (toggle_at (length took))) (host_of took)
+
+-- after so many task runs
+abbrev pub tasks : ℕ → List DevLine
+tasks n = replicate n Task
+
+abbrev pub after_tasks : {S : Type 0} → World S → Device S → ℕ → Device S
+after_tasks world d n = after_lines (whole world) d (tasks n)
+
+-- where a control read stands
+pub data Reads {S : Type 0} (world : World S) (setup bytes : List ℕ) (packets : List (List ℕ)) : Device S → Host → Type 0 where
+  -- no handler run has served the SETUP
+  heard : (base : Core) (classes : Classes S) (x : List ℕ) (xs : List (List ℕ)) (side : Side) (stage : Option Stage) (transfer : Transfer) → last_of (x ∷ xs) ≡ Some setup
+      → new_address transfer (finished_stage side) ≡ None
+      → ((n : ℕ) → Decides world.set setup bytes (after_tasks world (of_parts (starting base (x ∷ xs) side stage None transfer) classes) n).core)
+      → Reads world setup bytes packets (of_parts (starting base (x ∷ xs) side stage None transfer) classes) (host_of [])
+  -- no task has taken it
+  noted : (base : Core) (classes : Classes S) (stage : Option Stage) (transfer : Transfer) → Decides world.set setup bytes base
+      → Reads world setup bytes packets (of_parts (starting base [] Off stage (Some setup) transfer) classes) (host_of [])
+  -- its data stage runs
+  runs : (core : Core) (classes : Classes S) (host : Host) → Running packets core host → Reads world setup bytes packets (of_parts core classes) host
 
 -- the pipes have no part in it, but for what they have halted
 pub decides : (set : Set) (setup bytes : List ℕ) (base : Core) (pipes : Pipes) → halted_addresses pipes ≡ halted_addresses base.pipes → Decides set setup bytes base → Decides set setup bytes (record base { pipes = pipes })
 decides set setup bytes base pipes e d = ap (λ halted. choice set (record { addr = base.bus.address; configured = base.session; halted = record { items = halted } }) (fields_of setup)) e ∙ d
 
-piped : {set : Set} {setup bytes : List ℕ} {packets : List (List ℕ)} {core : Core} {host : Host} (pipes : Pipes) → halted_addresses pipes ≡ halted_addresses core.pipes → Reads set setup bytes packets core host
-    → Reads set setup bytes packets (record core { pipes = pipes }) host
-piped {set = set} {setup = setup} {bytes = bytes} pipes same (heard base x xs side stage transfer l n d) = heard (record base { pipes = pipes }) x xs side stage transfer l n (decides set setup bytes base pipes same d)
-piped {set = set} {setup = setup} {bytes = bytes} pipes same (noted base stage transfer d) = noted (record base { pipes = pipes }) stage transfer (decides set setup bytes base pipes same d)
-piped pipes same (waits base took packet rest e) = waits (record base { pipes = pipes }) took packet rest e
-piped pipes same (lacks base took packet rest e) = lacks (record base { pipes = pipes }) took packet rest e
-piped pipes same (has base took packet rest e) = has (record base { pipes = pipes }) took packet rest e
-piped pipes same (sent base took next rest e) = sent (record base { pipes = pipes }) took next rest e
-piped pipes same (told base took next rest e) = told (record base { pipes = pipes }) took next rest e
-piped pipes same (over base took e) = over (record base { pipes = pipes }) took e
-
--- a handler run and a task run serve them behind endpoint 0
-pub served : {set : Set} {setup bytes : List ℕ} {packets : List (List ℕ)} {core : Core} {host : Host} → Reads set setup bytes packets core host → Reads set setup bytes packets (with_pipes_served core) host
-served {core = core} h = piped (pipes_after_irq core.pipes) (halts_of (pipes_after_irq core.pipes) core.pipes (irq_keeps core.pipes)) h
-
-pub worked : {set : Set} {setup bytes : List ℕ} {packets : List (List ℕ)} {core : Core} {host : Host} → Reads set setup bytes packets core host → Reads set setup bytes packets (with_pipes_worked core) host
-worked {core = core} h = piped (pipes_after_task core.pipes) (halts_of (pipes_after_task core.pipes) core.pipes (task_keeps core.pipes)) h
+-- and in a data stage none at all
+pub piped : {packets : List (List ℕ)} {core : Core} {host : Host} (pipes : Pipes) → Running packets core host → Running packets (record core { pipes = pipes }) host
+piped pipes (waits base took packet rest e) = waits (record base { pipes = pipes }) took packet rest e
+piped pipes (lacks base took packet rest e) = lacks (record base { pipes = pipes }) took packet rest e
+piped pipes (has base took packet rest e) = has (record base { pipes = pipes }) took packet rest e
+piped pipes (sent base took next rest e) = sent (record base { pipes = pipes }) took next rest e
+piped pipes (told base took next rest e) = told (record base { pipes = pipes }) took next rest e
+piped pipes (over base took e) = over (record base { pipes = pipes }) took e
 
 -- toggles alternate
 flip_at : (n : ℕ) → toggle_at (suc n) ≡ flipped (toggle_at n)

@@ -1,11 +1,13 @@
 -- Handler runs and task runs, and from there every schedule.
-use Rattle.std.proofs.Common.{◌≡◌, ◌<◌, ℕ, zero, suc, List, [], ◌∷◌, Bool, true, false, ◌||◌, ◌==◌, length, is_some, if◌then◌else◌, Option, Some, None, refl, sym, ap, subst, ◌∙◌, arith, nat_lt}
+use Rattle.std.proofs.Common.{◌≡◌, ◌<◌, ℕ, zero, suc, List, [], ◌∷◌, Bool, true, false, ◌||◌, ◌==◌, ◌++◌, length, is_some, if◌then◌else◌, Option, Some, None, refl, sym, ap, subst, ◌∙◌, arith, nat_lt, append_assoc}
 use Rattle.std.proofs.lemmas.Bool.Decides.{nat_tests}
 use Rattle.usb_packet.specs.declared.bus.Toggle.{Toggle}
 use Rattle.usb_packet.specs.declared.bus.BusEvent.TheVariants as event
+use Rattle.usb_packet.specs.declared.setup.Setup.{Setup}
+use Rattle.usb_packet.specs.declared.bus.Owner.{Owner}
 use Rattle.usb_packet.specs.Setup.{fields_of}
+use Rattle.usb_pipe.specs.declared.decision.Decision.{Decision}
 use Rattle.usb_pipe.specs.declared.decision.Decision.TheVariants as decision
-use Rattle.usb_descriptor.specs.Set.{Set}
 use Rattle.usb_control.specs.declared.state.Effect.{Effect}
 use Rattle.usb_control.specs.declared.state.Effect.TheVariants as effect
 use Rattle.usb_control.specs.declared.state.Choice.{Choice}
@@ -18,12 +20,20 @@ use Rattle.device_machine.specs.declared.control.Stage.TheVariants.{Sent, Came}
 use Rattle.device_machine.specs.declared.control.Side.{Side}
 use Rattle.device_machine.specs.declared.control.Side.TheVariants.{Off, Wait, Loaded, Last, Armed, Stall, Finished}
 use Rattle.device_machine.specs.Bus.{is_empty, loaded, hears, hears_setup, hears_packet, bus_after, pipes_after, finished_stage, last_of}
-use Rattle.device_machine.specs.Pipes.{pipes_after_irq, pipes_after_task, in_slot, in_slot_answer}
+use Rattle.device_machine.specs.Pipes.{Pipes, pipes_after_irq, in_slot, in_slot_answer}
 use Rattle.device_machine.specs.Packets.{data_packets}
-use Rattle.device_machine.specs.Core.{Core, Transfer, Idle, Sending, Ending, Addressing, emptied, start, state_of, new_address, with_request, after_stages, sending, with_data, ending, changed, begun, with_pipes_served, with_control_worked, after_task}
-use Rattle.usb_packet.specs.declared.bus.Owner.TheVariants as owner
-use Rattle.device_schedule.specs.Schedule.{machine, state_after, core_after, core_state}
-use Rattle.device_laws.specs.Seen.{Attention, Deaf, Waiting, Listening, Seen, unseen, asked_address, served, seen_irq, seen_line, seen_after, seen_of}
+use Rattle.std.proofs.lemmas.List.{append-nil}
+use Rattle.usb_pipe.specs.Classes.{Classes, class_at}
+use Rattle.device_line.specs.declared.call.DevCall.{DevCall}
+use Rattle.device_line.specs.declared.call.DevCall.TheVariants.{State, Cdc, Hid, Msc, Midi}
+use Rattle.device_owners.specs.Device.{World, Device, Core, Transfer, Idle, Sending, Taking, Ending, Addressing, Foreign, emptied, core_state, new_address, with_request, after_stages, sending, answered, with_data, ending, class_staged, changed, begun, with_pipes_served, work_stage, with_request_worked, with_control_worked, after_task}
+use Rattle.device_owners.specs.Lines.{call_owner, whole, line_answer, after_line, after_call, state_after, answer_to}
+use Rattle.device_owners.specs.Isolation.{Isolates}
+use Rattle.device_schedule.specs.Schedule.{answers_after}
+use Rattle.device_schedule.proofs.Answers.{state_after-more}
+use Rattle.device_laws.specs.World.{core_after, IsOfSet}
+use Rattle.device_laws.proofs.Whole.{of_parts, isolated}
+use Rattle.device_laws.specs.Seen.{Attention, Deaf, Waiting, Listening, Seen, unseen, asked_address, served, seen_irq, seen_line, seen_lines, seen_of}
 use Rattle.device_laws.proofs.Stages.{some}
 use Rattle.device_laws.proofs.Facts.{Attends, Quiet, Runs, Waits, Underway, Small, Serves, Matches, Fresh, Facts, facts_piped}
 use Rattle.device_laws.proofs.Asks.{address_of, Bounded, Asks, asks}
@@ -32,6 +42,8 @@ use Rattle.device_laws.proofs.Steps.{put, in_facts, out_facts, setup_facts}
 pub no_address : (transfer : Transfer) → new_address transfer None ≡ None
 no_address Idle = refl
 no_address (Sending packets) = refl
+no_address (Taking o setup) = refl
+no_address Foreign = refl
 no_address Ending = refl
 no_address (Addressing n) = refl
 
@@ -188,6 +200,8 @@ irq_by core seen transfer Stall h =
     subst (λ d. Facts (after_stages (with_both core transfer Stall) d) (served seen d)) (sym (no_address transfer)) (empty_facts (with_both core transfer Stall) seen refl h)
 irq_by core seen Idle (Finished stage) h = noted_facts core seen Idle stage h.due h
 irq_by core seen (Sending packets) (Finished stage) h = noted_facts core seen (Sending packets) stage h.due h
+irq_by core seen (Taking o setup) (Finished stage) h = noted_facts core seen (Taking o setup) stage h.due h
+irq_by core seen Foreign (Finished stage) h = noted_facts core seen Foreign stage h.due h
 irq_by core seen Ending (Finished stage) h = noted_facts core seen Ending stage h.due h
 irq_by core seen (Addressing n) (Finished stage) h = address_facts core seen n stage h
 
@@ -243,11 +257,9 @@ waits_for : (packets : List (List ℕ)) (last : Bool) → Waits last (Sending pa
 waits_for packets true = tt
 waits_for packets false = tt
 
--- an effect changes none of this
-changed_facts : (set : Set) (core : Core) (seen : Seen) (e : Effect) → Facts core seen → Facts (changed set core e) seen
-changed_facts set core seen effect.None h = h
-changed_facts set core seen (effect.Address n) h = h
-changed_facts set core seen (effect.Configure begins) h = record {
+-- neither the pipes nor a session have a part in this
+session_facts : (core : Core) (seen : Seen) (pipes : Pipes) (session : Bool) → Facts core seen → Facts (record core { pipes = pipes; session = session }) seen
+session_facts core seen pipes session h = record {
   attends = h.attends;
   address = h.address;
   bounded = h.bounded;
@@ -261,48 +273,15 @@ changed_facts set core seen (effect.Configure begins) h = record {
   underway = h.underway;
   small = h.small;
 }
-changed_facts set core seen (effect.Halt a) h = record {
-  attends = h.attends;
-  address = h.address;
-  bounded = h.bounded;
-  count = h.count;
-  noted = h.noted;
-  due = h.due;
-  matches = h.matches;
-  fresh = h.fresh;
-  quiet = h.quiet;
-  settled = h.settled;
-  underway = h.underway;
-  small = h.small;
-}
-changed_facts set core seen (effect.Clear a) h = record {
-  attends = h.attends;
-  address = h.address;
-  bounded = h.bounded;
-  count = h.count;
-  noted = h.noted;
-  due = h.due;
-  matches = h.matches;
-  fresh = h.fresh;
-  quiet = h.quiet;
-  settled = h.settled;
-  underway = h.underway;
-  small = h.small;
-}
-changed_facts set core seen (effect.ClearInterface n) h = record {
-  attends = h.attends;
-  address = h.address;
-  bounded = h.bounded;
-  count = h.count;
-  noted = h.noted;
-  due = h.due;
-  matches = h.matches;
-  fresh = h.fresh;
-  quiet = h.quiet;
-  settled = h.settled;
-  underway = h.underway;
-  small = h.small;
-}
+
+-- so an effect changes none of it
+changed_facts : {S : Type 0} (world : World S) (d : Device S) (seen : Seen) (e : Effect) → Facts d.core seen → Facts (changed (whole world) d e).core seen
+changed_facts world d seen effect.None h = h
+changed_facts world d seen (effect.Address n) h = h
+changed_facts world d seen (effect.Configure begins) h = session_facts d.core seen (changed (whole world) d (effect.Configure begins)).core.pipes begins h
+changed_facts world d seen (effect.Halt a) h = facts_piped d.core seen (changed (whole world) d (effect.Halt a)).core.pipes h
+changed_facts world d seen (effect.Clear a) h = facts_piped d.core seen (changed (whole world) d (effect.Clear a)).core.pipes h
+changed_facts world d seen (effect.ClearInterface n) h = facts_piped d.core seen (changed (whole world) d (effect.ClearInterface n)).core.pipes h
 
 sending_facts : (core : Core) (seen : Seen) (bytes : List ℕ) (packets : List (List ℕ)) → 0 < length packets → Ready core seen bytes → asked_address bytes ≡ None
     → Facts (sending core packets) (without_note seen)
@@ -341,15 +320,30 @@ serves_ending bytes (effect.ClearInterface n) h = h
 refused_facts : (core : Core) (seen : Seen) (bytes : List ℕ) → Ready core seen bytes → Facts (with_both core Idle Stall) (without_note seen)
 refused_facts core seen bytes h = begins core seen bytes Idle Stall h tt tt refl tt
 
-begun_facts : (set : Set) (core : Core) (seen : Seen) (bytes : List ℕ) (c : Choice) → Ready core seen bytes → Asks (fields_of bytes) c → Facts (begun set core c (fields_of bytes).length) (without_note seen)
-begun_facts set core seen bytes (Own (decision.Data d) e) h asked =
-    changed_facts set (with_data core d.items (fields_of bytes).length) (without_note seen) e (data_facts core seen bytes d.items (fields_of bytes).length h asked)
-begun_facts set core seen bytes (Own (decision.Take n) e) h asked = changed_facts set (with_both core Idle Stall) (without_note seen) e (refused_facts core seen bytes h)
-begun_facts set core seen bytes (Own decision.Status e) h asked =
-    changed_facts set (with_both core (ending e) (Wait [] false)) (without_note seen) e
-    (begins core seen bytes (ending e) (Wait [] false) h (ends e) (small_ending e asked.1) refl (serves_ending bytes e asked.0))
-begun_facts set core seen bytes (Own decision.Stall e) h asked = changed_facts set (with_both core Idle Stall) (without_note seen) e (refused_facts core seen bytes h)
-begun_facts set core seen bytes (Class o) h asked = refused_facts core seen bytes h
+-- a request of the core
+own_facts : {S : Type 0} (world : World S) (d : Device S) (seen : Seen) (bytes : List ℕ) (decided : Decision) (e : Effect) → Ready d.core seen bytes → Asks (fields_of bytes) (Own decided e)
+    → Facts (begun (whole world) d (fields_of bytes) (Own decided e)).core (without_note seen)
+own_facts world d seen bytes (decision.Data items) e h asked =
+    changed_facts world (record d { core = with_data d.core items.items (fields_of bytes).length }) (without_note seen) e (data_facts d.core seen bytes items.items (fields_of bytes).length h asked)
+own_facts world d seen bytes (decision.Take n) e h asked = changed_facts world (record d { core = with_both d.core Idle Stall }) (without_note seen) e (refused_facts d.core seen bytes h)
+own_facts world d seen bytes decision.Status e h asked =
+    changed_facts world (record d { core = with_both d.core (ending e) (Wait [] false) }) (without_note seen) e
+    (begins d.core seen bytes (ending e) (Wait [] false) h (ends e) (small_ending e asked.1) refl (serves_ending bytes e asked.0))
+own_facts world d seen bytes decision.Stall e h asked = changed_facts world (record d { core = with_both d.core Idle Stall }) (without_note seen) e (refused_facts d.core seen bytes h)
+
+-- and of a class, whatever that decides
+class_facts : (core : Core) (seen : Seen) (bytes : List ℕ) (o : Owner) (decided : Decision) → Ready core seen bytes → asked_address bytes ≡ None
+    → Facts (class_staged core o (fields_of bytes) decided) (without_note seen)
+class_facts core seen bytes o (decision.Data items) h asked = data_facts core seen bytes items.items (fields_of bytes).length h asked
+class_facts core seen bytes o (decision.Take n) h asked = begins core seen bytes (Taking o (fields_of bytes)) Armed h tt tt refl asked
+class_facts core seen bytes o decision.Status h asked = begins core seen bytes Ending (Wait [] false) h tt tt refl asked
+class_facts core seen bytes o decision.Stall h asked = refused_facts core seen bytes h
+
+begun_facts : {S : Type 0} (world : World S) (d : Device S) (seen : Seen) (bytes : List ℕ) (c : Choice) → Ready d.core seen bytes → Asks (fields_of bytes) c
+    → Facts (begun (whole world) d (fields_of bytes) c).core (without_note seen)
+begun_facts world d seen bytes (Own decided e) h asked = own_facts world d seen bytes decided e h asked
+begun_facts world d seen bytes (Class o) h asked =
+    class_facts d.core seen bytes o ((world.rules o).decides (class_at d.classes o) (fields_of bytes)) h asked
 
 -- a device with these notes and this transfer
 abbrev pub noting : Core → Option Stage → Option (List ℕ) → Transfer → Core
@@ -390,9 +384,10 @@ other_transfer core seen bytes transfer side h = record {
     still (x ∷ xs) bytes request a b h = h
 
 -- the request is begun behind whatever stage was worked
-behind : (set : Set) (core : Core) (seen : Seen) (bytes : List ℕ) → Ready core seen bytes → (before : Core) → Facts (begun set core (choice set (state_of before) (fields_of bytes)) (fields_of bytes).length) (without_note seen)
-behind set core seen bytes h before =
-    begun_facts set core seen bytes (choice set (state_of before) (fields_of bytes)) h (asks set (state_of before) (fields_of bytes))
+behind : {S : Type 0} (world : World S) (core : Core) (classes : Classes S) (seen : Seen) (bytes : List ℕ) → Ready core seen bytes → (before : Core)
+    → Facts (begun (whole world) (of_parts core classes) (fields_of bytes) (choice world.set (core_state before) (fields_of bytes))).core (without_note seen)
+behind world core classes seen bytes h before =
+    begun_facts world (of_parts core classes) seen bytes (choice world.set (core_state before) (fields_of bytes)) h (asks world.set (core_state before) (fields_of bytes))
 
 -- and without a request it goes on
 goes_on : (core : Core) (seen : Seen) (stage : Option Stage) (before after : Transfer) (side : Side) → Facts (noting core stage None before) seen → None ≡ seen.due
@@ -428,9 +423,82 @@ sends_on : (unserved : List (List ℕ)) (before after : List (List ℕ)) (reques
 sends_on [] before after request h = h
 sends_on (x ∷ xs) before after request h = h
 
-control_by : (set : Set) (core : Core) (seen : Seen) (stage : Option Stage) (request : Option (List ℕ)) (transfer : Transfer) → Facts (noting core stage request transfer) seen
-    → Facts (with_control_worked set (noting core stage request transfer)) (without_note seen)
-control_by set core seen None None transfer h = record {
+-- after a packet that a class took or refused
+taking_ends : (unserved : List (List ℕ)) (o : Owner) (setup : Setup) (request : List ℕ) → Matches unserved None (Taking o setup) request → Matches unserved None Ending request
+taking_ends [] o setup request h = h
+taking_ends (x ∷ xs) o setup request h = h
+
+answers_on : {S : Type 0} (world : World S) (core : Core) (classes : Classes S) (seen : Seen) (p : List ℕ) (o : Owner) (setup : Setup) (taken : Bool)
+    → Facts (noting core (Some (Came p)) None (Taking o setup)) seen
+    → Facts (with_request_worked (whole world) (of_parts (answered (noting core None None (Taking o setup)) taken) classes)).core (without_note seen)
+answers_on world core classes seen p o setup true h =
+    goes_on core seen (Some (Came p)) (Taking o setup) Ending (Wait [] false) h (due_off (noting core (Some (Came p)) None (Taking o setup)) seen h.settled h.due)
+    tt refl tt (taking_ends core.bus.unserved o setup seen.request h.matches)
+answers_on world core classes seen p o setup false h =
+    goes_on core seen (Some (Came p)) (Taking o setup) Idle Stall h (due_off (noting core (Some (Came p)) None (Taking o setup)) seen h.settled h.due)
+    tt refl tt (idle_matches core.bus.unserved (Taking o setup) seen.request h.matches)
+
+-- a stage alone
+stage_by : {S : Type 0} (world : World S) (core : Core) (classes : Classes S) (seen : Seen) (stage : Stage) (transfer : Transfer) → Facts (noting core (Some stage) None transfer) seen
+    → Facts (with_control_worked (whole world) (of_parts (noting core (Some stage) None transfer) classes)).core (without_note seen)
+stage_by world core classes seen Sent (Sending []) h = rests core seen Sent (Sending []) h
+stage_by world core classes seen Sent (Sending (packet ∷ packets)) h =
+    goes_on core seen (Some Sent) (Sending (packet ∷ packets)) (Sending packets) (Wait packet (is_empty packets)) h
+    (due_off (noting core (Some Sent) None (Sending (packet ∷ packets))) seen h.settled h.due)
+    (waits_for packets (is_empty packets)) refl tt (sends_on core.bus.unserved (packet ∷ packets) packets seen.request h.matches)
+stage_by world core classes seen Sent (Taking o setup) h = rests core seen Sent (Taking o setup) h
+stage_by world core classes seen Sent Ending h = rests core seen Sent Ending h
+stage_by world core classes seen Sent (Addressing n) h = rests core seen Sent (Addressing n) h
+stage_by world core classes seen Sent Idle h = rests core seen Sent Idle h
+stage_by world core classes seen Sent Foreign h = absurd h.small
+stage_by world core classes seen (Came p) (Sending packets) h = rests core seen (Came p) (Sending packets) h
+stage_by world core classes seen (Came p) (Taking o setup) h =
+    answers_on world core (work_stage (whole world) (of_parts (noting core (Some (Came p)) None (Taking o setup)) classes) (Some (Came p))).classes seen p o setup
+    ((world.rules o).accepts (class_at classes o) setup p) h
+stage_by world core classes seen (Came p) Ending h = rests core seen (Came p) Ending h
+stage_by world core classes seen (Came p) (Addressing n) h = rests core seen (Came p) (Addressing n) h
+stage_by world core classes seen (Came p) Idle h = rests core seen (Came p) Idle h
+stage_by world core classes seen (Came p) Foreign h = absurd h.small
+
+-- a request behind a stage that leaves this
+after_stage : {S : Type 0} (world : World S) (core : Core) (classes : Classes S) (seen : Seen) (stage : Stage) (bytes : List ℕ) (transfer after : Transfer) (side : Side)
+    → Facts (noting core (Some stage) (Some bytes) transfer) seen
+    → Facts (begun (whole world) (of_parts (with_both (noting core None None transfer) after side) classes) (fields_of bytes) (choice world.set (core_state core) (fields_of bytes))).core (without_note seen)
+after_stage world core classes seen stage bytes transfer after side h =
+    behind world (with_both (noting core None None transfer) after side) classes seen bytes
+    (other_transfer (noting core None None transfer) seen bytes after side (ready core seen (Some stage) bytes transfer h)) core
+
+after_answer : {S : Type 0} (world : World S) (core : Core) (classes : Classes S) (seen : Seen) (p bytes : List ℕ) (o : Owner) (setup : Setup) (taken : Bool)
+    → Facts (noting core (Some (Came p)) (Some bytes) (Taking o setup)) seen
+    → Facts (with_request_worked (whole world) (of_parts (answered (noting core None (Some bytes) (Taking o setup)) taken) classes)).core (without_note seen)
+after_answer world core classes seen p bytes o setup true h = after_stage world core classes seen (Came p) bytes (Taking o setup) Ending (Wait [] false) h
+after_answer world core classes seen p bytes o setup false h = after_stage world core classes seen (Came p) bytes (Taking o setup) Idle Stall h
+
+-- a stage and a request
+both_by : {S : Type 0} (world : World S) (core : Core) (classes : Classes S) (seen : Seen) (stage : Stage) (bytes : List ℕ) (transfer : Transfer)
+    → Facts (noting core (Some stage) (Some bytes) transfer) seen
+    → Facts (with_control_worked (whole world) (of_parts (noting core (Some stage) (Some bytes) transfer) classes)).core (without_note seen)
+both_by world core classes seen Sent bytes (Sending []) h = after_stage world core classes seen Sent bytes (Sending []) Idle core.bus.side h
+both_by world core classes seen Sent bytes (Sending (packet ∷ packets)) h =
+    after_stage world core classes seen Sent bytes (Sending (packet ∷ packets)) (Sending packets) (Wait packet (is_empty packets)) h
+both_by world core classes seen Sent bytes (Taking o setup) h = after_stage world core classes seen Sent bytes (Taking o setup) Idle core.bus.side h
+both_by world core classes seen Sent bytes Ending h = after_stage world core classes seen Sent bytes Ending Idle core.bus.side h
+both_by world core classes seen Sent bytes (Addressing n) h = after_stage world core classes seen Sent bytes (Addressing n) Idle core.bus.side h
+both_by world core classes seen Sent bytes Idle h = after_stage world core classes seen Sent bytes Idle Idle core.bus.side h
+both_by world core classes seen Sent bytes Foreign h = absurd h.small
+both_by world core classes seen (Came p) bytes (Sending packets) h = after_stage world core classes seen (Came p) bytes (Sending packets) Idle core.bus.side h
+both_by world core classes seen (Came p) bytes (Taking o setup) h =
+    after_answer world core (work_stage (whole world) (of_parts (noting core (Some (Came p)) (Some bytes) (Taking o setup)) classes) (Some (Came p))).classes seen p bytes o setup
+    ((world.rules o).accepts (class_at classes o) setup p) h
+both_by world core classes seen (Came p) bytes Ending h = after_stage world core classes seen (Came p) bytes Ending Idle core.bus.side h
+both_by world core classes seen (Came p) bytes (Addressing n) h = after_stage world core classes seen (Came p) bytes (Addressing n) Idle core.bus.side h
+both_by world core classes seen (Came p) bytes Idle h = after_stage world core classes seen (Came p) bytes Idle Idle core.bus.side h
+both_by world core classes seen (Came p) bytes Foreign h = absurd h.small
+
+control_by : {S : Type 0} (world : World S) (core : Core) (classes : Classes S) (seen : Seen) (stage : Option Stage) (request : Option (List ℕ)) (transfer : Transfer)
+    → Facts (noting core stage request transfer) seen
+    → Facts (with_control_worked (whole world) (of_parts (noting core stage request transfer) classes)).core (without_note seen)
+control_by world core classes seen None None transfer h = record {
   attends = h.attends;
   address = h.address;
   bounded = h.bounded;
@@ -444,46 +512,16 @@ control_by set core seen None None transfer h = record {
   underway = h.underway;
   small = h.small;
 }
-control_by set core seen None (Some bytes) transfer h =
-    behind set (noting core None None transfer) seen bytes (ready core seen None bytes transfer h) (noting core None (Some bytes) transfer)
-control_by set core seen (Some Sent) None (Sending []) h = rests core seen Sent (Sending []) h
-control_by set core seen (Some Sent) None (Sending (packet ∷ packets)) h =
-    goes_on core seen (Some Sent) (Sending (packet ∷ packets)) (Sending packets) (Wait packet (is_empty packets)) h
-    (due_off (noting core (Some Sent) None (Sending (packet ∷ packets))) seen h.settled h.due)
-    (waits_for packets (is_empty packets)) refl tt (sends_on core.bus.unserved (packet ∷ packets) packets seen.request h.matches)
-control_by set core seen (Some (Came p)) None (Sending packets) h = rests core seen (Came p) (Sending packets) h
-control_by set core seen (Some stage) None Ending h = rests core seen stage Ending h
-control_by set core seen (Some stage) None (Addressing n) h = rests core seen stage (Addressing n) h
-control_by set core seen (Some stage) None Idle h = rests core seen stage Idle h
-control_by set core seen (Some Sent) (Some bytes) (Sending []) h =
-    behind set (with_both (noting core None None (Sending [])) Idle core.bus.side) seen bytes
-    (other_transfer (noting core None None (Sending [])) seen bytes Idle core.bus.side (ready core seen (Some Sent) bytes (Sending []) h))
-    core
-control_by set core seen (Some Sent) (Some bytes) (Sending (packet ∷ packets)) h =
-    behind set (with_both (noting core None None (Sending (packet ∷ packets))) (Sending packets) (Wait packet (is_empty packets))) seen bytes
-    (other_transfer (noting core None None (Sending (packet ∷ packets))) seen bytes (Sending packets) (Wait packet (is_empty packets)) (ready core seen (Some Sent) bytes (Sending (packet ∷ packets)) h))
-    core
-control_by set core seen (Some (Came p)) (Some bytes) (Sending packets) h =
-    behind set (with_both (noting core None None (Sending packets)) Idle core.bus.side) seen bytes
-    (other_transfer (noting core None None (Sending packets)) seen bytes Idle core.bus.side (ready core seen (Some (Came p)) bytes (Sending packets) h))
-    core
-control_by set core seen (Some stage) (Some bytes) Ending h =
-    behind set (with_both (noting core None None Ending) Idle core.bus.side) seen bytes
-    (other_transfer (noting core None None Ending) seen bytes Idle core.bus.side (ready core seen (Some stage) bytes Ending h))
-    core
-control_by set core seen (Some stage) (Some bytes) (Addressing n) h =
-    behind set (with_both (noting core None None (Addressing n)) Idle core.bus.side) seen bytes
-    (other_transfer (noting core None None (Addressing n)) seen bytes Idle core.bus.side (ready core seen (Some stage) bytes (Addressing n) h))
-    core
-control_by set core seen (Some stage) (Some bytes) Idle h =
-    behind set (with_both (noting core None None Idle) Idle core.bus.side) seen bytes
-    (other_transfer (noting core None None Idle) seen bytes Idle core.bus.side (ready core seen (Some stage) bytes Idle h))
-    core
+control_by world core classes seen None (Some bytes) transfer h =
+    behind world (noting core None None transfer) classes seen bytes (ready core seen None bytes transfer h) (noting core None (Some bytes) transfer)
+control_by world core classes seen (Some stage) None transfer h = stage_by world core classes seen stage transfer h
+control_by world core classes seen (Some stage) (Some bytes) transfer h = both_by world core classes seen stage bytes transfer h
 
-pub task_facts : (set : Set) (core : Core) (seen : Seen) → Facts core seen → Facts (after_task set core) (without_note seen)
-task_facts set core seen h =
-    let worked = with_control_worked set core in
-    facts_piped worked (without_note seen) (pipes_after_task worked.pipes) (control_by set core seen core.finished core.request core.transfer h)
+-- the classes work on pipes alone
+pub task_facts : {S : Type 0} (world : World S) (d : Device S) (seen : Seen) → Facts d.core seen → Facts (after_task (whole world) d).core (without_note seen)
+task_facts world d seen h =
+    facts_piped (with_control_worked (whole world) d).core (without_note seen) (after_task (whole world) d).core.pipes
+    (control_by world d.core d.classes seen d.core.finished d.core.request d.core.transfer h)
 
 -- Each line
 
@@ -531,25 +569,41 @@ irq_holds core seen true false Listening a h = irq_facts core seen h
 irq_holds core seen true true Listening a h = absurd a
 irq_holds core seen false reset Listening a h = absurd a
 
-line_facts : (set : Set) (core : Core) (seen : Seen) (line : DevLine) → Facts core seen → Facts (core_after set core line) (seen_line core seen line)
-line_facts set core seen (Bus event.Reset) h = reset_facts core seen h
-line_facts set core seen (Bus (event.Setup addr bytes ok)) h = setup_facts core seen bytes (hears_setup core.bus addr ok) h
-line_facts set core seen (Bus (event.Out addr ep toggle packet ok)) h =
+-- a call is one to a class, or leaves the device
+call_facts : {S : Type 0} (world : World S) (d : Device S) (seen : Seen) (call : DevCall) → Facts d.core seen → Facts (after_call (whole world) d (call_owner call) call).core seen
+call_facts world d seen State h = h
+call_facts world d seen (Cdc call) h = facts_piped d.core seen (after_call (whole world) d (call_owner (Cdc call)) (Cdc call)).core.pipes h
+call_facts world d seen (Hid call) h = facts_piped d.core seen (after_call (whole world) d (call_owner (Hid call)) (Hid call)).core.pipes h
+call_facts world d seen (Msc call) h = facts_piped d.core seen (after_call (whole world) d (call_owner (Msc call)) (Msc call)).core.pipes h
+call_facts world d seen (Midi call) h = facts_piped d.core seen (after_call (whole world) d (call_owner (Midi call)) (Midi call)).core.pipes h
+
+line_facts : {S : Type 0} (world : World S) (d : Device S) (seen : Seen) (line : DevLine) → Facts d.core seen
+    → Facts (after_line (whole world) d line).core (seen_line seen line (line_answer (whole world) d line))
+line_facts world d seen (Bus event.Reset) h = reset_facts d.core seen h
+line_facts world d seen (Bus (event.Setup addr bytes ok)) h = setup_facts d.core seen bytes (hears_setup d.core.bus addr ok) h
+line_facts world d seen (Bus (event.Out addr ep toggle packet ok)) h =
     let e = event.Out addr ep toggle packet ok in
-    facts_piped (record core { bus = bus_after core.bus e }) seen (pipes_after core.bus core.pipes e)
-    (out_facts core seen core.bus.unserved core.bus.side core.bus.taken (hears_packet core.bus addr ok) (ep == 0) toggle packet h)
-line_facts set core seen (Bus (event.In addr ep ok)) h =
+    facts_piped (record d.core { bus = bus_after d.core.bus e }) seen (pipes_after d.core.bus d.core.pipes e)
+    (out_facts d.core seen d.core.bus.unserved d.core.bus.side d.core.bus.taken (hears_packet d.core.bus addr ok) (ep == 0) toggle packet h)
+line_facts world d seen (Bus (event.In addr ep ok)) h =
     let e = event.In addr ep ok in
-    facts_piped (record core { bus = bus_after core.bus e }) (seen_line core seen (Bus e)) (pipes_after core.bus core.pipes e)
-    (in_facts core seen core.bus.unserved core.bus.side core.bus.taken (hears core.bus addr) (ep == 0) ok (in_slot_answer (in_slot core.pipes ep)) h)
-line_facts set core seen Irq h = irq_holds core seen core.bus.awake core.bus.reset seen.attention h.attends h
-line_facts set core seen Task h = task_facts set core seen h
-line_facts set core seen (Call call) h = h
+    facts_piped (record d.core { bus = bus_after d.core.bus e }) (seen_line seen (Bus e) (line_answer (whole world) d (Bus e))) (pipes_after d.core.bus d.core.pipes e)
+    (in_facts d.core seen d.core.bus.unserved d.core.bus.side d.core.bus.taken (hears d.core.bus addr) (ep == 0) ok (in_slot_answer (in_slot d.core.pipes ep)) h)
+line_facts world d seen Irq h = irq_holds d.core seen d.core.bus.awake d.core.bus.reset seen.attention h.attends h
+line_facts world d seen Task h = task_facts world d seen h
+line_facts world d seen (Call call) h = call_facts world d seen call h
 
--- and a whole schedule
-after_facts : (set : Set) (core : Core) (seen : Seen) (lines : List DevLine) → Facts core seen → Facts (state_after (machine set owner.Core) core lines) (seen_after set core seen lines)
-after_facts set core seen [] h = h
-after_facts set core seen (line ∷ lines) h = after_facts set (core_after set core line) (seen_line core seen line) lines (line_facts set core seen line h)
+-- and a whole schedule, whose answers are the whole device's
+after_facts : {S : Type 0} (world : World S) → Isolates world → (before lines : List DevLine) (seen : Seen) → Facts (core_after world before) seen
+    → Facts (core_after world (before ++ lines)) (seen_lines seen lines (answers_after world before lines))
+after_facts world apart before [] seen h = rw (append-nil before) h
+after_facts world apart before (line ∷ lines) seen h =
+    let d = state_after (whole world) before in
+    let a = answer_to world before line in
+    let step : Facts (after_line (whole world) d line).core (seen_line seen line a) = subst (λ t. Facts (after_line (whole world) d line).core (seen_line seen line t)) (apart.answers before line) (line_facts world d seen line h) in
+    let more : Facts (core_after world (before ++ line ∷ [])) (seen_line seen line a) = subst (λ (t : Device _). Facts t.core (seen_line seen line a)) (sym (state_after-more world before line)) step in
+    subst (λ ls. Facts (core_after world ls) (seen_lines (seen_line seen line a) lines (answers_after world (before ++ line ∷ []) lines))) (append_assoc before (line ∷ []) lines)
+    (after_facts world apart (before ++ line ∷ []) lines (seen_line seen line a) more)
 
-pub run_facts : (set : Set) (lines : List DevLine) → Facts (core_state set lines) (seen_of set lines)
-run_facts set lines = after_facts set start (unseen Deaf) lines (new_facts false Deaf tt)
+pub run_facts : {S : Type 0} (world : World S) → IsOfSet world → (lines : List DevLine) → Facts (core_after world lines) (seen_of world lines)
+run_facts world of_set lines = after_facts world (isolated world of_set) [] lines (unseen Deaf) (new_facts false Deaf tt)

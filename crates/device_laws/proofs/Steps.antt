@@ -10,7 +10,7 @@ use Rattle.device_machine.specs.declared.control.Stage.TheVariants.{Sent, Came}
 use Rattle.device_machine.specs.declared.control.Side.{Side}
 use Rattle.device_machine.specs.declared.control.Side.TheVariants.{Off, Wait, Loaded, Last, Armed, Stall, Finished}
 use Rattle.device_machine.specs.Bus.{is_empty, disturbed, after_setup, after_out, after_in, in_answer, finished_stage, last_of}
-use Rattle.device_machine.specs.Core.{Core, Transfer, Idle, Sending, Ending, Addressing, new_address}
+use Rattle.device_owners.specs.Device.{Core, Transfer, Idle, Sending, Taking, Ending, Addressing, Foreign, new_address}
 use Rattle.device_laws.specs.Seen.{Seen, asked_address, heard, given}
 use Rattle.device_laws.proofs.Facts.{Quiet, Runs, Sends, Underway, Serves, Matches, Fresh, Facts}
 
@@ -33,21 +33,27 @@ due_of : (pending : Option (List ℕ)) (transfer : Transfer) (request : List ℕ
 due_of (Some x) transfer request a stage not_off q h r = absurd (not_off q)
 due_of None Idle request a stage not_off q h r = absurd r
 due_of None (Sending packets) request a stage not_off q h r = sym h
+due_of None (Taking o setup) request a stage not_off q h r = sym h
+due_of None Foreign request a stage not_off q h r = absurd r
 due_of None Ending request a stage not_off q h r = sym h
 due_of None (Addressing n) request a stage not_off q h r = sym h
 
--- where data goes to the host there is no address
+-- where data goes there is no address
 due_none : (pending : Option (List ℕ)) (transfer : Transfer) (request : List ℕ) (a : Side) → (a ≡ Off → ⊥) → Quiet pending a → Serves pending transfer request → Sends transfer
     → new_address transfer None ≡ asked_address request
 due_none (Some x) transfer request a not_off q h r = absurd (not_off q)
 due_none None Idle request a not_off q h r = absurd r
 due_none None (Sending packets) request a not_off q h r = sym h
+due_none None (Taking o setup) request a not_off q h r = sym h
+due_none None Foreign request a not_off q h r = absurd r
 due_none None Ending request a not_off q h r = absurd r
 due_none None (Addressing n) request a not_off q h r = absurd r
 
 pub sends_none : (transfer : Transfer) (a b : Option Stage) → Sends transfer → new_address transfer a ≡ new_address transfer b
 sends_none Idle a b h = refl
 sends_none (Sending packets) a b h = refl
+sends_none (Taking o setup) a b h = refl
+sends_none Foreign a b h = absurd h
 sends_none Ending a b h = absurd h
 sends_none (Addressing n) a b h = absurd h
 

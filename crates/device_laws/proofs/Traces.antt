@@ -12,6 +12,7 @@ use Rattle.device_line.specs.declared.line.DevLine.{DevLine}
 use Rattle.device_line.specs.declared.line.DevLine.TheVariants.{Bus, Irq, Task, Call}
 use Rattle.device_line.specs.declared.line.Answer.{Answer}
 use Rattle.device_line.specs.declared.line.Answer.TheVariants as answer
+use Rattle.device_owners.specs.Device.{World}
 use Rattle.device_schedule.specs.Turns.{Turn, IsTurn, AreTurns, AreWork, after_turn}
 use Rattle.device_laws.specs.Examples.{ack, none}
 use Rattle.device_laws.specs.Traces.{gintsts, gintmsk, nowhere, reads, writes, turn, AreTraces, AreNoTraces, with_event, table_after, IsOf, TurnsAreOfTheTable}
@@ -86,36 +87,36 @@ first_turn t (Call call) x xs a h = h
 too_many : (t : Table) (line : DevLine) (x : Access) (xs : List Access) (a : Answer) → 400 < length (x ∷ xs) → IsTurn t line (x ∷ xs) a → ⊥
 too_many t line x xs a h is = let most : length (x ∷ xs) ≤ 400 = (first_turn t line x xs a is).1 in omega (arith, most, h)
 
-pub are_no_traces : AreNoTraces
-are_no_traces = record {
+pub are_no_traces : {S : Type 0} (world : World S) → AreNoTraces world
+are_no_traces world = record {
   asleep = λ h. let e : ack ≡ none = h.run.1.1.0.1 in absurd (cc (e));
   unanswered = λ h. let e = h.answers in absurd (cc (e));
   too_early = λ h. let e : ack ≡ none = h.run.1.1.1.0.1 in absurd (cc (e));
-  unset = λ set schedule line a behind h.
+  unset = λ schedule line a behind h.
       let is = first_turn (after_bus (opened FS4) event.Reset) line (reads gintsts 0) [] a h.run.1.0 in
       let e : 0 ≡ 0x3000 = is.0.0.1 refl in
       absurd (cc (e));
-  other_start = λ set schedule line a behind h.
+  other_start = λ schedule line a behind h.
       let is = first_turn (opened FS4) line (reads gintmsk 0) [] a h.run.0 in
       let e : 0 ≡ 0xffffffff = is.0.0.1 refl in
       absurd (cc (e));
-  stale = λ set schedule line a behind h.
+  stale = λ schedule line a behind h.
       let is = first_turn (opened FS4) line (writes gintmsk 1) (reads gintmsk 0xffffffff ∷ []) a h.run.0 in
       let e : 0xffffffff ≡ 1 = is.0.1.0.1 refl in
       absurd (cc (e));
-  no_register = λ set schedule line a behind h.
+  no_register = λ schedule line a behind h.
       let is = first_turn (opened FS4) line (writes nowhere 0) [] a h.run.0 in
       let e : false ≡ true = is.0.0.0 in
       absurd (cc (e));
-  read_nowhere = λ set schedule line a behind h.
+  read_nowhere = λ schedule line a behind h.
       let is = first_turn (opened FS4) line (reads nowhere 0) [] a h.run.0 in
       let e : false ≡ true = is.0.0.0 in
       absurd (cc (e));
-  too_wide = λ set schedule line a behind h.
+  too_wide = λ schedule line a behind h.
       let is = first_turn (opened FS4) line (writes gintmsk 0x100000000) [] a h.run.0 in
       let e : 0x100000000 < 2 ^ 32 = is.2.0.1 in
       omega (arith, e);
-  too_many = λ set schedule line a behind h. too_many (opened FS4) line (reads gintsts 0) (replicate 400 (reads gintsts 0)) a (omega arith) h.run.0;
+  too_many = λ schedule line a behind h. too_many (opened FS4) line (reads gintsts 0) (replicate 400 (reads gintsts 0)) a (omega arith) h.run.0;
   on_the_bus = λ h. let e = h.run.0.0 in absurd (cc (e));
   other_line = λ h. let e = h.lines in absurd (cc (e));
   other_answer = λ h. let e = h.answers in absurd (cc (e));
@@ -149,6 +150,6 @@ is_of t Irq accesses a h = record { steps = h.0; words = h.2; most = h.1; silent
 is_of t Task accesses a h = record { steps = h.0; words = h.2; most = h.1; silent = λ f same. absurd (cc (same)); answered = λ f same. absurd (cc (same)) }
 is_of t (Call call) accesses a h = record { steps = h.0; words = h.2; most = h.1; silent = λ f same. absurd (cc (same)); answered = λ f same. absurd (cc (same)) }
 
-pub turns_are_of_the_table : TurnsAreOfTheTable
-turns_are_of_the_table set schedule before now behind h =
+pub turns_are_of_the_table : {S : Type 0} (world : World S) → TurnsAreOfTheTable world
+turns_are_of_the_table world schedule before now behind h =
     is_of (table_after (opened FS4) before) now.line now.accesses now.answer (rests (opened FS4) before now behind h.run)

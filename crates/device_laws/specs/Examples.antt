@@ -16,6 +16,7 @@ use Rattle.usb_descriptor.specs.declared.endpoint.EpKind.TheVariants.{Bulk}
 use Rattle.device_machine.specs.Packets.{numbers_from}
 use Rattle.device_machine.specs.Pipes.{Pipes, pipes_unopened, session_pipes, with_halt, halted_addresses}
 use Rattle.device_schedule.specs.Schedule.{answers as schedule_answers}
+use Rattle.device_laws.specs.World.{IsOfSet, bare}
 use Rattle.device_laws.specs.Reading.{IsRead}
 
 -- A device of one interface and no endpoint but 0, with power from the bus
@@ -48,12 +49,12 @@ powered = record {
   report = None;
 }
 
--- a line of a schedule, and its answer
+-- a line of a schedule, and its answer. No class stands behind these devices
 abbrev pub Turns : Type 0
 Turns = List (DevLine × Answer)
 
 abbrev pub IsAnswered : Set → Turns → Type 0
-IsAnswered set turns = schedule_answers set (map (λ turn. turn.0) turns) ≡ map (λ turn. turn.1) turns
+IsAnswered set turns = schedule_answers (bare set) (map (λ turn. turn.0) turns) ≡ map (λ turn. turn.1) turns
 
 abbrev pub done : Answer
 done = answer.Bus answers.Done
@@ -170,8 +171,9 @@ abbrev pub get_interface : List ℕ
 get_interface = 0x81 ∷ 0x0a ∷ 0 ∷ 0 ∷ 0 ∷ 0 ∷ 1 ∷ 0 ∷ []
 
 -- a device that was just reset, and is asked for its descriptor, meets the conditions of the law on control reads
-abbrev pub PlainIsRead : Type 0
-PlainIsRead = IsRead plain (Bus event.Reset ∷ Irq ∷ []) 0 get_device device
+pub record PlainIsRead : Type 0 where
+  pub of_set : IsOfSet (bare plain)
+  pub read : IsRead (bare plain) (Bus event.Reset ∷ Irq ∷ []) 0 get_device device
 
 -- Control transfers with data for the host (8.5.3)
 pub record Reads : Type 0 where

@@ -1,3 +1,4 @@
+pub mod World
 pub mod Stages
 pub mod Requests
 pub mod Examples

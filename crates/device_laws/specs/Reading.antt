@@ -1,24 +1,24 @@
 -- A control read from the host's side: what it takes of the data stage, whatever is lost (USB 2.0, 8.5.3 and 8.6).
-use Rattle.std.specs.Prelude.{◌≡◌, ◌<◌, ◌⊎◌, ℕ, zero, suc, List, [], ◌∷◌, ◌++◌, Bool, true, false, length, take, map, None}
+use Rattle.std.specs.Prelude.{◌≡◌, ◌<◌, ◌⊎◌, ℕ, zero, suc, List, [], ◌∷◌, ◌++◌, Bool, true, false, length, take, map, replicate, None}
 use Rattle.std.specs.List.{concat}
-use Rattle.usb_packet.specs.declared.bus.Owner.TheVariants as owner
 use Rattle.usb_packet.specs.declared.bus.Toggle.{Toggle}
 use Rattle.usb_packet.specs.declared.bus.Toggle.TheVariants.{D0, D1}
 use Rattle.usb_packet.specs.declared.bus.BusEvent.TheVariants as event
 use Rattle.usb_packet.specs.declared.bus.BusAnswer.{BusAnswer}
-use Rattle.usb_packet.specs.declared.bus.BusAnswer.TheVariants as answers
+use Rattle.usb_packet.specs.declared.bus.BusAnswer.TheVariants as bus_answers
 use Rattle.usb_packet.specs.Setup.{fields_of}
 use Rattle.usb_pipe.specs.declared.decision.Decision.TheVariants.{Data}
-use Rattle.usb_descriptor.specs.Set.{Set}
 use Rattle.usb_control.specs.declared.state.Effect.TheVariants as effect
 use Rattle.usb_control.specs.declared.state.Choice.TheVariants.{Own}
 use Rattle.usb_control.specs.Table.{choice}
 use Rattle.device_line.specs.declared.line.DevLine.{DevLine}
 use Rattle.device_line.specs.declared.line.DevLine.TheVariants.{Bus, Irq, Task}
-use Rattle.device_machine.specs.Bus.{bus_answer}
-use Rattle.device_machine.specs.Core.{Core, state_of}
+use Rattle.device_line.specs.declared.line.Answer.{Answer}
+use Rattle.device_line.specs.declared.line.Answer.TheVariants as answer
 use Rattle.device_machine.specs.Packets.{data_packets}
-use Rattle.device_schedule.specs.Schedule.{machine, state_after, core_after, core_state}
+use Rattle.device_owners.specs.Device.{World, core_state}
+use Rattle.device_owners.specs.Lines.{answer_to}
+use Rattle.device_laws.specs.World.{core_after}
 use Rattle.device_laws.specs.Seen.{seen_of}
 use Rattle.device_laws.specs.Stages.{Last}
 
@@ -62,31 +62,29 @@ takes host D1 D0 packet = host
 takes host D0 D1 packet = host
 
 abbrev pub gets : Host → BusAnswer → Host
-gets host (answers.Data toggle packet) = takes host host.expects toggle packet
-gets host answers.Done = host
-gets host answers.Ack = host
-gets host answers.Nak = host
-gets host answers.Stall = host
-gets host answers.NoAnswer = host
+gets host (bus_answers.Data toggle packet) = takes host host.expects toggle packet
+gets host bus_answers.Done = host
+gets host bus_answers.Ack = host
+gets host bus_answers.Nak = host
+gets host bus_answers.Stall = host
+gets host bus_answers.NoAnswer = host
 
 abbrev pub host_token : Host → Fate → BusAnswer → Host
 host_token host DataLost a = host
 host_token host AckLost a = gets host a
 host_token host Whole a = gets host a
 
-abbrev pub host_step : Core → Host → Step → Host
-host_step core host (Token addr fate) = host_token host fate (bus_answer core.bus core.pipes (event.In addr 0 (confirmed fate)))
-host_step core host Handler = host
-host_step core host Work = host
+abbrev pub host_step : Host → Step → Answer → Host
+host_step host (Token addr fate) (answer.Bus a) = host_token host fate a
+host_step host (Token addr fate) (answer.Reply r) = host
+host_step host Handler a = host
+host_step host Work a = host
 
--- what a host has after these steps, from a device and a host on
-abbrev pub host_after : Set → Core → Host → List Step → Host
-host_after set core host [] = host
-host_after set core host (step ∷ steps) = host_after set (core_after set core (line_of step)) (host_step core host step) steps
-
--- the device after them
-abbrev pub core_steps : Set → Core → List Step → Core
-core_steps set core steps = state_after (machine set owner.Core) core (map line_of steps)
+-- what a host has after these steps, from lines and a host on
+abbrev pub host_after : {S : Type 0} → World S → List DevLine → Host → List Step → Host
+host_after world before host [] = host
+host_after world before host (step ∷ steps) =
+    host_after world (before ++ line_of step ∷ []) (host_step host step (answer_to world before (line_of step))) steps
 
 -- packet number n of a data stage, from 0 on, has this toggle: they alternate from DATA1 on (8.5.3)
 abbrev pub toggle_at : ℕ → Toggle
@@ -101,22 +99,26 @@ IsFront few all = (rest : List (List ℕ)) × (all ≡ few ++ rest)
 -- a data packet is the next one that the host lacks, with that one's toggle; or, again, the last that it took, with the toggle
 -- that it had then. Else endpoint 0 isn't ready, or the token isn't for this device
 abbrev pub IsDue : List (List ℕ) → List (List ℕ) → BusAnswer → Type 0
-IsDue packets took (answers.Data toggle packet) =
+IsDue packets took (bus_answers.Data toggle packet) =
     ((toggle ≡ toggle_at (length took)) × IsFront (took ++ packet ∷ []) packets)
     ⊎ ((before : List (List ℕ)) × (took ≡ before ++ packet ∷ []) × (toggle ≡ toggle_at (length before)))
-IsDue packets took answers.Nak = Unit {0}
-IsDue packets took answers.NoAnswer = Unit {0}
-IsDue packets took answers.Done = ⊥
-IsDue packets took answers.Ack = ⊥
-IsDue packets took answers.Stall = ⊥
+IsDue packets took bus_answers.Nak = Unit {0}
+IsDue packets took bus_answers.NoAnswer = Unit {0}
+IsDue packets took bus_answers.Done = ⊥
+IsDue packets took bus_answers.Ack = ⊥
+IsDue packets took bus_answers.Stall = ⊥
+
+abbrev pub IsDueAnswer : List (List ℕ) → List (List ℕ) → Answer → Type 0
+IsDueAnswer packets took (answer.Bus a) = IsDue packets took a
+IsDueAnswer packets took (answer.Reply r) = ⊥
 
 -- the host has all that it asked for, or got a packet that isn't full: for it the data stage is over (8.5.3.2)
 abbrev pub IsOver : ℕ → List (List ℕ) → Type 0
 IsOver asked [] = ⊥
 IsOver asked (packet ∷ packets) = (length (concat (packet ∷ packets)) ≡ asked) ⊎ Last (λ last. length last < 64) (packet ∷ packets)
 
--- what a host has of a data stage of these bytes, of which it asked for so many
-pub record IsDelivered (bytes : List ℕ) (asked : ℕ) (core : Core) (host : Host) : Type 0 where
+-- what a host has of a data stage of these bytes, of which it asked for so many, after these lines
+pub record IsDelivered {S : Type 0} (world : World S) (bytes : List ℕ) (asked : ℕ) (lines : List DevLine) (host : Host) : Type 0 where
   -- it took the first packets, each once and in order
   pub front : IsFront host.took (data_packets bytes asked)
   -- their bytes are the first of the data, cut to what it asked for
@@ -124,26 +126,28 @@ pub record IsDelivered (bytes : List ℕ) (asked : ℕ) (core : Core) (host : Ho
   -- and once the stage is over they are all of it
   pub all : IsOver asked host.took → concat host.took ≡ take asked bytes
   -- whatever token comes next
-  pub due : (addr : ℕ) (ok : Bool) → IsDue (data_packets bytes asked) host.took (bus_answer core.bus core.pipes (event.In addr 0 ok))
+  pub due : (addr : ℕ) (ok : Bool) → IsDueAnswer (data_packets bytes asked) host.took (answer_to world lines (Bus (event.In addr 0 ok)))
+
+-- these lines and the SETUP
+abbrev pub asked_lines : List DevLine → ℕ → List ℕ → List DevLine
+asked_lines lines addr setup = lines ++ Bus (event.Setup addr setup true) ∷ []
 
 -- a SETUP that a device acknowledges after these lines, and whose request gives bytes. No request before it waits for a task,
 -- and no new address for a handler run
-pub record IsRead (set : Set) (lines : List DevLine) (addr : ℕ) (setup bytes : List ℕ) : Type 0 where
-  pub heard : bus_answer (core_state set lines).bus (core_state set lines).pipes (event.Setup addr setup true) ≡ answers.Ack
-  pub alone : (seen_of set lines).noted ≡ false
-  pub settled : (seen_of set lines).due ≡ None
-  pub gives : choice set (state_of (core_state set lines)) (fields_of setup) ≡ Own (Data (record { items = bytes })) effect.None
+pub record IsRead {S : Type 0} (world : World S) (lines : List DevLine) (addr : ℕ) (setup bytes : List ℕ) : Type 0 where
+  pub heard : answer_to world lines (Bus (event.Setup addr setup true)) ≡ answer.Bus bus_answers.Ack
+  pub alone : (seen_of world lines).noted ≡ false
+  pub settled : (seen_of world lines).due ≡ None
+  -- also after task runs before the handler run that serves it, in which a class may halt an endpoint of its own
+  pub gives : (n : ℕ) → choice world.set (core_state (core_after world (asked_lines lines addr setup ++ replicate n Task))) (fields_of setup)
+      ≡ Own (Data (record { items = bytes })) effect.None
   pub some : 0 < (fields_of setup).length
 
--- the device when it acknowledged it
-abbrev pub asked_core : Set → List DevLine → ℕ → List ℕ → Core
-asked_core set lines addr setup = core_after set (core_state set lines) (Bus (event.Setup addr setup true))
-
 -- whatever steps follow, in whatever order
-abbrev pub ReadsAreDelivered : Type 0
-ReadsAreDelivered = (set : Set) (lines : List DevLine) (addr : ℕ) (setup bytes : List ℕ) → IsRead set lines addr setup bytes → (steps : List Step)
-    → IsDelivered bytes (fields_of setup).length (core_steps set (asked_core set lines addr setup) steps)
-    (host_after set (asked_core set lines addr setup) at_setup steps)
+abbrev pub ReadsAreDelivered : {S : Type 0} → World S → Type 0
+ReadsAreDelivered world = (lines : List DevLine) (addr : ℕ) (setup bytes : List ℕ) → IsRead world lines addr setup bytes → (steps : List Step)
+    → IsDelivered world bytes (fields_of setup).length (asked_lines lines addr setup ++ map line_of steps)
+    (host_after world (asked_lines lines addr setup) at_setup steps)
 
 -- a handler run, a task run, a handler run and a token whose data and acknowledgement come through, so many times
 abbrev pub rounds : ℕ → ℕ → List Step
@@ -151,7 +155,7 @@ rounds addr zero = []
 rounds addr (suc n) = Handler ∷ Work ∷ Handler ∷ Token addr Whole ∷ rounds addr n
 
 -- and the device doesn't answer NAK for ever: after as many of these as there are packets the host has them all
-abbrev pub ReadsEnd : Type 0
-ReadsEnd = (set : Set) (lines : List DevLine) (addr : ℕ) (setup bytes : List ℕ) → IsRead set lines addr setup bytes
-    → (host_after set (asked_core set lines addr setup) at_setup (rounds addr (length (data_packets bytes (fields_of setup).length)))).took
+abbrev pub ReadsEnd : {S : Type 0} → World S → Type 0
+ReadsEnd world = (lines : List DevLine) (addr : ℕ) (setup bytes : List ℕ) → IsRead world lines addr setup bytes
+    → (host_after world (asked_lines lines addr setup) at_setup (rounds addr (length (data_packets bytes (fields_of setup).length)))).took
     ≡ data_packets bytes (fields_of setup).length

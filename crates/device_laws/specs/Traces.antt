@@ -3,7 +3,6 @@ use Rattle.std.specs.Prelude.{◌≡◌, ◌≤◌, ℕ, List, [], ◌∷◌, �
 use Rattle.std.specs.List.{AllByRecursion}
 use Rattle.usb_packet.specs.declared.bus.BusEvent.{BusEvent}
 use Rattle.usb_packet.specs.declared.bus.BusEvent.TheVariants as event
-use Rattle.usb_descriptor.specs.Set.{Set}
 use Rattle.dwc2_regs.specs.declared.access.TheConstants.{FS4}
 use Rattle.dwc2_regs.specs.declared.access.Access.{Access}
 use Rattle.device_table.specs.State.{Table, opened}
@@ -16,7 +15,9 @@ use Rattle.device_line.specs.declared.line.DevLine.TheVariants.{Bus, Irq, Task, 
 use Rattle.device_line.specs.declared.call.DevCall.TheVariants.{State}
 use Rattle.device_line.specs.declared.line.Answer.{Answer}
 use Rattle.device_line.specs.declared.line.Answer.TheVariants as answer
+use Rattle.device_owners.specs.Device.{World}
 use Rattle.device_schedule.specs.Turns.{Turn, IsTrace}
+use Rattle.device_laws.specs.World.{bare}
 use Rattle.device_laws.specs.Examples.{plain, done, ack, none, setup, get_device}
 
 -- Registers by their offsets, and a window.
@@ -53,7 +54,7 @@ abbrev pub at_setup : Answer → Turn
 at_setup a = turn (setup 0 get_device) [] a
 
 abbrev pub IsWorked : List Turn → Type 0
-IsWorked turns = IsTrace plain (map (λ t. t.line) turns) turns
+IsWorked turns = IsTrace (bare plain) (map (λ t. t.line) turns) turns
 
 -- What is a trace
 pub record AreTraces : Type 0 where
@@ -75,14 +76,14 @@ pub record AreTraces : Type 0 where
   -- 400 accesses for one line
   pub longest : IsWorked (turn Irq (replicate 400 (reads gintsts 0)) done ∷ [])
 
--- no trace has these turns and then a line with these accesses, whatever line it is and whatever comes of it
-abbrev pub NoneHas : List Turn → List Access → Type 0
-NoneHas before accesses =
-    (set : Set) (schedule : List DevLine) (line : DevLine) (a : Answer) (behind : List Turn)
-    → IsTrace set schedule (before ++ turn line accesses a ∷ behind) → ⊥
+-- no trace of a world has these turns and then a line with these accesses, whatever line it is and whatever comes of it
+abbrev pub NoneHas : {S : Type 0} → World S → List Turn → List Access → Type 0
+NoneHas world before accesses =
+    (schedule : List DevLine) (line : DevLine) (a : Answer) (behind : List Turn)
+    → IsTrace world schedule (before ++ turn line accesses a ∷ behind) → ⊥
 
 -- What is none
-pub record AreNoTraces : Type 0 where
+pub record AreNoTraces {S : Type 0} (world : World S) : Type 0 where
   -- nothing woke the device: it doesn't answer a SETUP, though a handler run wakes its machine, which acknowledges it. Neither
   -- answer is both the device's and the machine's
   pub asleep : IsWorked (at_reset ∷ turn Irq [] done ∷ at_setup ack ∷ []) → ⊥
@@ -90,19 +91,19 @@ pub record AreNoTraces : Type 0 where
   -- USBRST was cleared before it was set
   pub too_early : IsWorked (turn Irq (writes gintsts 0x3000 ∷ []) done ∷ at_reset ∷ turn Irq [] done ∷ at_setup ack ∷ []) → ⊥
   -- a reset sets USBRST and ENUMDNE
-  pub unset : NoneHas (at_reset ∷ []) (reads gintsts 0 ∷ [])
+  pub unset : NoneHas world (at_reset ∷ []) (reads gintsts 0 ∷ [])
   -- the first read of GINTMSK is that of the opened state, and a second one that of the write before it
-  pub other_start : NoneHas [] (reads gintmsk 0 ∷ [])
-  pub stale : NoneHas [] (writes gintmsk 1 ∷ reads gintmsk 0xffffffff ∷ [])
-  pub no_register : NoneHas [] (writes nowhere 0 ∷ [])
-  pub read_nowhere : NoneHas [] (reads nowhere 0 ∷ [])
+  pub other_start : NoneHas world [] (reads gintmsk 0 ∷ [])
+  pub stale : NoneHas world [] (writes gintmsk 1 ∷ reads gintmsk 0xffffffff ∷ [])
+  pub no_register : NoneHas world [] (writes nowhere 0 ∷ [])
+  pub read_nowhere : NoneHas world [] (reads nowhere 0 ∷ [])
   -- a word has 32 bits
-  pub too_wide : NoneHas [] (writes gintmsk 0x100000000 ∷ [])
-  pub too_many : NoneHas [] (replicate 401 (reads gintsts 0))
+  pub too_wide : NoneHas world [] (writes gintmsk 0x100000000 ∷ [])
+  pub too_many : NoneHas world [] (replicate 401 (reads gintsts 0))
   -- an access on a line of the bus, also one that the controller takes
   pub on_the_bus : IsWorked (turn (Bus event.Reset) (reads gintmsk 0xffffffff ∷ []) done ∷ []) → ⊥
   -- another line than the schedule's, and another answer than its machine's
-  pub other_line : IsTrace plain (Task ∷ []) (turn Irq [] done ∷ []) → ⊥
+  pub other_line : IsTrace (bare plain) (Task ∷ []) (turn Irq [] done ∷ []) → ⊥
   pub other_answer : IsWorked (turn Irq [] ack ∷ []) → ⊥
 
 -- What each trace is
@@ -129,6 +130,6 @@ pub record IsOf (t : Table) (now : Turn) : Type 0 where
   pub answered : (e : BusEvent) → now.line ≡ Bus e → now.answer ≡ answer.Bus (bus_answer t e)
 
 -- each turn of a trace is one of the controller, from its opened state on, after all turns before it
-abbrev pub TurnsAreOfTheTable : Type 0
-TurnsAreOfTheTable = (set : Set) (schedule : List DevLine) (before : List Turn) (now : Turn) (behind : List Turn)
-    → IsTrace set schedule (before ++ now ∷ behind) → IsOf (table_after (opened FS4) before) now
+abbrev pub TurnsAreOfTheTable : {S : Type 0} → World S → Type 0
+TurnsAreOfTheTable world = (schedule : List DevLine) (before : List Turn) (now : Turn) (behind : List Turn)
+    → IsTrace world schedule (before ++ now ∷ behind) → IsOf (table_after (opened FS4) before) now

@@ -3,17 +3,23 @@
 #![tactic(auto)]
 
 ghost use Rattle.std.specs.Prelude.{◌≡◌, List, true};
-ghost use Rattle.usb_descriptor.specs.Set.{Set};
+ghost use Rattle.device_owners.specs.Device.{World};
 ghost use Rattle.device_line.specs.declared.line.DevLine.{DevLine};
-ghost use Rattle.device_schedule.specs.Schedule.{answer_to, core_answer, core_state};
+ghost use Rattle.device_owners.specs.Lines.{answer_to, whole_answer};
 ghost use Rattle.usb_control.specs.Table.{rows};
 ghost use Rattle.device_laws.specs.Stages.{DataStages, LongIsNotOne, HasPacket};
 ghost use Rattle.device_laws.specs.Requests.{all_differ, Each, IsDone, UnnamedAreRefused, Directions};
 ghost use Rattle.device_laws.specs.Examples.{PlainIsRead, Reads, Setups, Addresses, Sessions};
-ghost use Rattle.device_laws.specs.Seen.{AddressIsSeen, SetupIsHeard, OthersAreIgnored, BusyAnswersNak};
+ghost use Rattle.device_laws.specs.Seen.{AddressIsSeen, SetupIsHeard, OthersAreIgnored, BusyAnswersNak, AddressIsTold};
+ghost use Rattle.device_laws.specs.World.{IsOfSet};
+ghost use Rattle.usb_descriptor.specs.declared.limits.EpLimits.{EpLimits};
+ghost use Rattle.usb_descriptor.specs.Set.{IsAccepted};
 ghost use Rattle.device_laws.specs.Reading.{ReadsAreDelivered, ReadsEnd};
 ghost use Rattle.device_laws.specs.Traces.{AreTraces, AreNoTraces, TurnsAreOfTheTable};
 ghost use Rattle.device_laws.specs.LastLine.{LacksAtMostOne};
+
+use usb_descriptor::DescSet;
+use usb_descriptor::laws::{acceptance_serves, endpoints_are_grouped};
 
 /// The packets of a data stage for the host: joined they are the data, cut to what the host asks for; each but the last has
 /// 64 bytes, and none has more; the last is shorter, or the host has all that it asked for; and it is empty only where the host
@@ -34,8 +40,9 @@ pub fn request_table()
     ensures directions { Directions }
 {}
 
-/// Schedules of endpoint 0 with their answers, worked by hand after USB 2.0: reads with lost packets, with full packets and
-/// with an empty one; SETUPs that are heard, unheard and too many, and what they end; addresses; sessions and halts.
+/// Schedules of endpoint 0 of devices without classes, with their answers, worked by hand after USB 2.0: reads with lost packets,
+/// with full packets and with an empty one; SETUPs that are heard, unheard and too many, and what they end; addresses; sessions
+/// and halts.
 pub fn worked_schedules()
     ensures reads { Reads }
     ensures setups { Setups }
@@ -46,8 +53,9 @@ pub fn worked_schedules()
 /// Over every schedule, by what is seen of the device from outside (its lines and their answers alone). The address is 0 until
 /// a handler run finds the status stage of a SET_ADDRESS acknowledged, which sets the one asked for, and 0 again once a
 /// handler run served a reset; it is always below 128 (USB 2.0, 9.4.6).
-pub fn addresses_follow_their_requests()
-    ensures { AddressIsSeen }
+pub fn addresses_follow_their_requests<S>()
+    ensures seen { (world : World S) → IsOfSet world → AddressIsSeen world }
+    ensures told { (world : World S) → IsOfSet world → AddressIsTold world }
 {}
 
 /// Over every schedule. A device that isn't addressed, or no handler run of which has served the last reset, or that had none
@@ -55,28 +63,36 @@ pub fn addresses_follow_their_requests()
 /// recover (USB 2.0, 9.2.6.2). An undamaged SETUP to it is acknowledged whatever endpoint 0 does, also where it stalls (8.5.3).
 /// Where three lie unserved the next isn't answered, which is this controller's limit; and from an acknowledged one on endpoint
 /// 0 answers NAK until a handler run served the SETUP and a task took it (8.5.3, 8.6.1).
-pub fn setups_are_heard()
-    ensures ignored { OthersAreIgnored }
-    ensures setup { SetupIsHeard }
-    ensures busy { BusyAnswersNak }
+pub fn setups_are_heard<S>()
+    ensures ignored { (world : World S) → IsOfSet world → OthersAreIgnored world }
+    ensures setup { (world : World S) → IsOfSet world → SetupIsHeard world }
+    ensures busy { (world : World S) → IsOfSet world → BusyAnswersNak world }
 {}
 
-/// A control read over every order of IN tokens, handler runs and task runs behind its SETUP, whatever data and whatever
-/// acknowledgements are lost. What the host took, each packet once, are the first packets of the data cut to what it asked
-/// for, and all of it once the stage is over for it. A packet that comes is the next one, or the last one again: toggles
-/// alternate from DATA1 on, and the same toggle brings the same bytes (USB 2.0, 8.5.3 and 8.6). With handler runs and a task
-/// run before each token, as many tokens as there are packets bring them all. A device that was just reset and is asked for
-/// its descriptor meets the law's conditions.
-pub fn reads_are_delivered()
-    ensures delivered { ReadsAreDelivered }
-    ensures ended { ReadsEnd }
+/// A control read of data that the core gives, over every order of IN tokens, handler runs and task runs behind its SETUP, whatever
+/// data and whatever acknowledgements are lost, and whatever classes do in those task runs. What the host took, each packet once,
+/// are the first packets of the data cut to what it asked for, and all of it once the stage is over for it. A packet that comes is
+/// the next one, or the last one again: toggles alternate from DATA1 on, and the same toggle brings the same bytes (USB 2.0, 8.5.3
+/// and 8.6). With handler runs and a task run before each token, as many tokens as there are packets bring them all. A device that
+/// was just reset and is asked for its descriptor meets the law's conditions.
+pub fn reads_are_delivered<S>()
+    ensures delivered { (world : World S) → IsOfSet world → ReadsAreDelivered world }
+    ensures ended { (world : World S) → IsOfSet world → ReadsEnd world }
     ensures met { PlainIsRead }
 {}
 
-/// Each answer to a schedule is that of the core, over the lines before it: the laws of the core's answers are laws of a
-/// schedule's answers.
-pub fn answers_are_of_the_core()
-    ensures { (set : Set) (before : List DevLine) (line : DevLine) → answer_to set before line ≡ core_answer (core_state set before) line }
+/// Every accepted set meets what the laws ask of a world, whatever its classes are.
+pub fn accepted_sets_have_laws<S>(set: &DescSet)
+    ensures { (limits : EpLimits) → IsAccepted set.now limits → (world : World S) → world.set ≡ set.now → IsOfSet world }
+{
+    acceptance_serves(set);
+    endpoints_are_grouped(set);
+}
+
+/// Each answer to a schedule is the whole device's, over all lines before it: the laws of the device's answers are laws of a
+/// schedule's answers, whatever its classes do.
+pub fn answers_are_of_the_device<S>()
+    ensures { (world : World S) → IsOfSet world → (before : List DevLine) (line : DevLine) → answer_to world before line ≡ whole_answer world before line }
 {}
 
 /// The accesses to registers in a trace are a run of the controller from its opened state on, over every trace: each turn's
@@ -84,10 +100,10 @@ pub fn answers_are_of_the_core()
 /// is the controller's. Traces worked by hand after RM0090 are ones, and others are none: with a SETUP that is acknowledged
 /// though nothing woke the device, with a read of another word, at no register, of more than 400 accesses, on the bus, and
 /// from another state than the opened one.
-pub fn traces_are_of_the_table()
-    ensures turns { TurnsAreOfTheTable }
+pub fn traces_are_of_the_table<S>()
+    ensures turns { (world : World S) → TurnsAreOfTheTable world }
     ensures some { AreTraces }
-    ensures none { AreNoTraces }
+    ensures none { (world : World S) → AreNoTraces world }
 {}
 
 /// The last line of a job's text may lack its newline: a text that ends with one is read as it is, and one that ends with

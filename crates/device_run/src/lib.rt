@@ -1,6 +1,7 @@
-//! A device's run: one line of its schedule after another, over the device core.
+//! A device's run: one line of its schedule after another, over the device core and its classes.
 #![tactic(auto)]
 
+mod ask;
 mod run;
 
 pub use run::DeviceRun;

@@ -2,11 +2,17 @@ ghost use Rattle.std.specs.Prelude.{◌≡◌, ◌<◌, ◌^◌, [], IfOk};
 ghost use Rattle.usb_descriptor.specs.Set.{IsAccepted};
 ghost use Rattle.dwc2_regs.specs.declared.access.TheConstants.{FS4};
 ghost use Rattle.device_table.specs.State.{opened};
-ghost use Rattle.device_machine.specs.Core.{start};
+ghost use Rattle.device_owners.specs.Device.{start};
+ghost use Rattle.device_owners.specs.Isolation.{Isolates};
+ghost use Rattle.device_run.specs.Run.{world};
+ghost use Rattle.device_world.specs.World.{world_of};
 ghost use Rattle.usbd_core.specs.Device.{tops};
 ghost use Rattle.std.specs.List.{AllByRecursion};
 ghost use Rattle.register_text.specs.Access.{IsAccess};
 
+use crate::ask::ask;
+use arrayvec::ArrayVec;
+use device_classes::DeviceClasses;
 use device_line::{Answer, DevCall, DevLine};
 use device_relation::laws::event_fits;
 use dwc2_access::Regs;
@@ -15,51 +21,74 @@ use dwc2_regs::{Access, FS4};
 use std::alloc::{AllocError, Global};
 use std::marker::Model;
 use usb_descriptor::DescSet;
+use usb_descriptor::laws::{acceptance_serves, endpoints_are_grouped};
 use usb_edge::Disks;
 use usb_packet::{BusAnswer, BusEvent};
-use usb_pipe::Reply;
+use usb_pipe::{Reply, Said, reply_of};
 use usbd_core::DevStack;
-use usbd_core::laws::bus_keeps;
+use usbd_core::laws::{bus_keeps, events_keep_whole};
 
-/// A device between two lines of its schedule: its software over the controller, which agree.
+/// A device between two lines of its schedule: its software over the controller, which agree, and its classes.
 #[derive(Drop)]
 pub struct DeviceRun {
     stack: DevStack<DevCore>,
+    classes: DeviceClasses,
+    /// The blocks of its disk. No class reads them yet.
+    blocks: Option<u32>,
 }
 
 impl Model for DeviceRun {
-    ghost use Rattle.std.specs.Prelude.{◌≡◌, []};
-    ghost use Rattle.dwc2_regs.specs.declared.access.TheConstants.{FS4};
-    ghost use Rattle.usbd_core.specs.Device.{core_of, Agrees};
+    ghost use Rattle.usbd_core.specs.Device.{seen};
+    ghost use Rattle.usbd_core.specs.View.{IsWhole};
     ghost use Rattle.device_run.specs.Run.{Run};
 
     ghost Value = { Run };
 
-    ghost view = { λ r. record { set = r.stack.set; core = core_of r.stack; table = r.stack.port.bank.table; ins = r.stack.port.software.ins; log = r.stack.port.bank.log } };
+    ghost view = { λ r. record {
+      set = r.stack.set;
+      blocks = r.blocks;
+      device = seen r.stack r.classes;
+      table = r.stack.port.bank.table;
+      ins = r.stack.port.software.ins;
+      log = r.stack.port.bank.log;
+    } };
 
-    ghost invariant = { λ r. Agrees FS4 r.stack × (r.stack.port.bank.due ≡ []) };
+    ghost invariant = { λ r. IsWhole r.stack };
 }
 
 impl DeviceRun {
+    ghost use Rattle.std.specs.Prelude.{false};
     ghost use Rattle.device_line.specs.declared.line.DevLine.TheVariants.{Bus, Irq, Task, Call};
     ghost use Rattle.device_line.specs.declared.line.Answer.TheVariants.{Bus as TheBus, Reply as TheReply};
+    ghost use Rattle.device_line.specs.declared.call.DevCall.TheVariants.{State};
     ghost use Rattle.usb_packet.specs.declared.bus.BusAnswer.TheVariants.{Done};
+    ghost use Rattle.usb_pipe.specs.declared.reply.Reply.TheVariants.{Core};
+    ghost use Rattle.usb_pipe.specs.Said.{Fits, reply_with};
+    ghost use Rattle.usb_descriptor.specs.Set.{is_core};
+    ghost use Rattle.device_owners.specs.Lines.{call_owner};
     ghost use Rattle.device_run.specs.Run.{Steps};
 
     /// A device with this set of descriptors, which has to be an accepted one, at its start, over a controller that is
-    /// opened. `blocks` are those of its disk, where it has one; no class reads one yet. It is `AllocError` only where memory
-    /// runs out.
+    /// opened. `blocks` are those of its disk, where it has one. It is `AllocError` only where memory runs out.
     pub fn open(alloc: Global, set: DescSet, blocks: Option<u32>) -> Result<DeviceRun, AllocError>
         requires { IsAccepted set (tops FS4) }
         ensures set { IfOk result (λ run. run.set ≡ set) }
-        ensures core { IfOk result (λ run. run.core ≡ start) }
+        ensures blocks { IfOk result (λ run. run.blocks ≡ blocks) }
+        ensures device { IfOk result (λ run. run.device ≡ start (world_of set blocks)) }
         ensures table { IfOk result (λ run. run.table ≡ opened FS4) }
         ensures log { IfOk result (λ run. run.log ≡ []) }
+        ensures apart { IfOk result (λ run. Isolates (world run)) }
     {
-        let _ = blocks;
+        acceptance_serves(&set);
+        endpoints_are_grouped(&set);
+        let classes = DeviceClasses::new(&set);
         let mut stack = DevStack::open(alloc, DevCore::new(FS4), set, FS4)?;
         stack.regs().begin();
-        Ok(DeviceRun { stack })
+        Ok(DeviceRun {
+            stack,
+            classes,
+            blocks,
+        })
     }
 
     /// One line of the schedule, and its answer. No class reads the disks yet.
@@ -99,11 +128,11 @@ impl DeviceRun {
     /// A line of the bus, and its answer there. It and the calls for the other lines are what `step` is made of, without
     /// an `Answer`, which has room for the longest one.
     #[inline(never)]
-    #[tactic(auto, using(crate::proofs::Lines::none_stays))]
     pub fn bus(&mut self, event: &BusEvent) -> BusAnswer
         ensures { Steps self.old self.new (Bus event.now) (TheBus result) }
     {
         bus_keeps();
+        events_keep_whole();
         event_fits(event);
         let controller = self.stack.regs();
         controller.begin();
@@ -115,7 +144,7 @@ impl DeviceRun {
         ensures { Steps self.old self.new Irq (TheBus Done) }
     {
         self.stack.regs().begin();
-        self.stack.irq();
+        self.stack.irq(&mut self.classes);
         self.trace_fits();
     }
 
@@ -124,26 +153,55 @@ impl DeviceRun {
         ensures { Steps self.old self.new Task (TheBus Done) }
     {
         self.stack.regs().begin();
-        self.stack.task();
+        self.stack.task(&mut self.classes);
         self.trace_fits();
     }
 
-    /// What is answered to a call. No class is driven yet, so each call of one is closed.
-    #[tactic(auto, using(crate::proofs::Lines::none_stays))]
+    /// Answers a call. The bytes of the answer are left in `bytes`.
+    pub fn answer(&mut self, call: &DevCall, bytes: &mut ArrayVec<u8, 4096>) -> Said
+        ensures steps { Steps self.old self.new (Call call.now) (TheReply (reply_with result bytes.new.items)) }
+        ensures fits { Fits result bytes.new.items }
+    {
+        match call {
+            DevCall::State => {
+                let (address, session) = self.state();
+                Said::Core(address, session)
+            }
+            DevCall::Cdc(_) | DevCall::Hid(_) | DevCall::Msc(_) | DevCall::Midi(_) => {
+                self.ask_class(call, bytes)
+            }
+        }
+    }
+
+    /// Answers a call with a reply that has its bytes.
+    #[inline(never)]
     pub fn reply(&mut self, call: &DevCall) -> Reply
         ensures { Steps self.old self.new (Call call.now) (TheReply result) }
     {
+        let mut bytes = ArrayVec::new();
+        let said = self.answer(call, &mut bytes);
+        reply_of(said, bytes)
+    }
+
+    /// The core's address, and 1 where a session stands, else 0 (USB 2.0, 9.1.1).
+    fn state(&mut self) -> (u8, u8)
+        ensures { Steps self.old self.new (Call State) (TheReply (Core result.0 result.1)) }
+    {
         self.stack.regs().begin();
-        match call {
-            DevCall::State => {
-                let state = self.stack.state();
-                Reply::Core(state.addr, u8::from(state.configured))
-            }
-            DevCall::Cdc(_) => Reply::Closed,
-            DevCall::Hid(_) => Reply::Closed,
-            DevCall::Msc(_) => Reply::Closed,
-            DevCall::Midi(_) => Reply::Closed,
-        }
+        let state = self.stack.state();
+        (state.addr, u8::from(state.configured))
+    }
+
+    /// Answers a call of a class by that class.
+    fn ask_class(&mut self, call: &DevCall, bytes: &mut ArrayVec<u8, 4096>) -> Said
+        requires class { is_core (call_owner call.now) ≡ false }
+        ensures steps { Steps self.old self.new (Call call.now) (TheReply (reply_with result bytes.new.items)) }
+        ensures fits { Fits result bytes.new.items }
+    {
+        self.stack.regs().begin();
+        let said = ask(&mut self.stack, &mut self.classes, call, bytes);
+        self.trace_fits();
+        said
     }
 }
 

@@ -7,12 +7,12 @@ use Rattle.device_table.specs.State.{Table, opened}
 use Rattle.device_table.specs.Bank.{most_accesses}
 use Rattle.device_table.specs.Bus as table
 use Rattle.dwc2_access.specs.Run.{AreSteps, accesses_after}
-use Rattle.usb_descriptor.specs.Set.{Set}
 use Rattle.register_text.specs.Access.{IsAccess}
 use Rattle.device_line.specs.declared.line.DevLine.{DevLine}
 use Rattle.device_line.specs.declared.line.DevLine.TheVariants.{Bus, Irq, Task, Call}
 use Rattle.device_line.specs.declared.line.Answer.{Answer}
 use Rattle.device_line.specs.declared.line.Answer.TheVariants as answer
+use Rattle.device_owners.specs.Device.{World}
 use Rattle.device_schedule.specs.Schedule.{answers}
 
 -- a line of a schedule, the accesses made for it, the oldest first, and its answer
@@ -50,7 +50,7 @@ AreTurns t [] = Unit {0}
 AreTurns t (turn ∷ turns) = IsTurn t turn.line turn.accesses turn.answer × AreTurns (after_turn t turn.line turn.accesses) turns
 
 -- the lines of a schedule with their answers, and with accesses that are a run of the controller from its opened state on
-pub record IsTrace (set : Set) (schedule : List DevLine) (turns : List Turn) : Type 0 where
+pub record IsTrace {S : Type 0} (world : World S) (schedule : List DevLine) (turns : List Turn) : Type 0 where
   pub lines : map (λ turn. turn.line) turns ≡ schedule
-  pub answers : map (λ turn. turn.answer) turns ≡ answers set schedule
+  pub answers : map (λ turn. turn.answer) turns ≡ answers world schedule
   pub run : AreTurns (opened FS4) turns

@@ -4,7 +4,7 @@ use Rattle.std.specs.List.{AllByRecursion}
 use Rattle.dwc2_regs.specs.declared.access.TheConstants.{FS4}
 use Rattle.dwc2_regs.specs.declared.access.Access.{Access}
 use Rattle.device_table.specs.State.{Table, opened}
-use Rattle.usb_descriptor.specs.Set.{Set}
+use Rattle.device_owners.specs.Device.{World}
 use Rattle.device_line.specs.declared.line.DevLine.{DevLine}
 use Rattle.device_line.specs.declared.line.DevLine.TheVariants.{Bus, Irq, Task, Call}
 use Rattle.device_line.specs.declared.line.Answer.{Answer}
@@ -51,8 +51,8 @@ turns_told t w (u ∷ us) (v ∷ vs) h k l a e =
     let first = turn_as u v (cc (l)) step.0 (cc (a)) in
     cc (first, rest)
 
-pub trace_is_told : (set : Set) (schedule : List DevLine) (us vs : List Turn) → IsTrace set schedule us → IsTrace set schedule vs
+pub trace_is_told : {S : Type 0} (world : World S) (schedule : List DevLine) (us vs : List Turn) → IsTrace world schedule us → IsTrace world schedule vs
     → trace_text us ≡ trace_text vs → us ≡ vs
-trace_is_told set schedule us vs h k e =
+trace_is_told world schedule us vs h k e =
     turns_told (opened FS4) (opened FS4) us vs h.run k.run (h.lines ∙ sym k.lines) (h.answers ∙ sym k.answers)
     (sym (lines_again (trace_lines us) (trace_is_plain us)) ∙ ap text_lines e ∙ lines_again (trace_lines vs) (trace_is_plain vs))

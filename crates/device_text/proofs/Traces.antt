@@ -5,7 +5,8 @@ use Rattle.std.proofs.lemmas.List.{append-nil}
 use Rattle.dwc2_regs.specs.declared.access.TheConstants.{FS4}
 use Rattle.dwc2_regs.specs.declared.access.Access.{Access}
 use Rattle.device_table.specs.State.{Table, opened}
-use Rattle.usb_descriptor.specs.Set.{Set}
+use Rattle.device_owners.specs.Device.{World}
+use Rattle.device_owners.specs.Lines.{answer_to}
 use Rattle.register_text.specs.declared.access.Side.TheVariants.{Plain}
 use Rattle.device_line.specs.declared.line.DevLine.{DevLine}
 use Rattle.device_line.specs.declared.line.Answer.{Answer}
@@ -13,7 +14,7 @@ use Rattle.usb_text.specs.Line.{answer_text, newline}
 use Rattle.usb_text.specs.Plain.{is_plain}
 use Rattle.usb_text.proofs.Accesses.{is_way, is_side, begins_an_access, answer_begins, access_is_plain}
 use Rattle.usb_text.proofs.Replies.{answer_is_plain}
-use Rattle.device_schedule.specs.Schedule.{core_answer, core_state, answers}
+use Rattle.device_schedule.specs.Schedule.{answers}
 use Rattle.device_text.specs.Answers.{answer_line, device_text}
 use Rattle.device_schedule.specs.Turns.{Turn, IsTurn, after_turn, after_turns, AreTurns, IsTrace}
 use Rattle.device_text.specs.Trace.{register_text, turn_lines, trace_lines, ended, trace_text, turn_text, tells_access, text_lines, without_registers}
@@ -48,14 +49,14 @@ pub trace_text-more : (turns : List Turn) (turn : Turn) → trace_text (turns ++
 trace_text-more turns turn = ap (flat_map ended) (trace_lines-more turns turn) ∙ flat-append ended (trace_lines turns) (turn_lines turn)
 
 -- a run that goes on by one line
-pub trace-more : (set : Set) (lines : List DevLine) (turns : List Turn) (turn : Turn) → IsTrace set lines turns
-    → turn.answer ≡ core_answer (core_state set lines) turn.line → IsTurn (after_turns (opened FS4) turns) turn.line turn.accesses turn.answer
-    → IsTrace set (lines ++ turn.line ∷ []) (turns ++ turn ∷ [])
-trace-more set lines turns turn h answered k = record {
+pub trace-more : {S : Type 0} (world : World S) (lines : List DevLine) (turns : List Turn) (turn : Turn) → IsTrace world lines turns
+    → turn.answer ≡ answer_to world lines turn.line → IsTurn (after_turns (opened FS4) turns) turn.line turn.accesses turn.answer
+    → IsTrace world (lines ++ turn.line ∷ []) (turns ++ turn ∷ [])
+trace-more world lines turns turn h answered k = record {
   lines = map-more (λ u. u.line) turns turn ∙ ap (λ t. t ++ turn.line ∷ []) h.lines;
   answers =
-      map-more (λ u. u.answer) turns turn ∙ ap (λ t. t ++ turn.answer ∷ []) h.answers ∙ ap (λ a. answers set lines ++ a ∷ []) answered
-      ∙ sym (answers-more set lines turn.line);
+      map-more (λ u. u.answer) turns turn ∙ ap (λ t. t ++ turn.answer ∷ []) h.answers ∙ ap (λ a. answers world lines ++ a ∷ []) answered
+      ∙ sym (answers-more world lines turn.line);
   run = are_turns-more (opened FS4) turns turn h.run k;
 }
 
@@ -136,5 +137,5 @@ text_left turns =
     ∙ ap (flat_map ended) (answers_left turns) ∙ answers-ended (map (λ turn. turn.answer) turns)
 
 -- of a run it is the text of the answers to its schedule
-pub run_left : (set : Set) (lines : List DevLine) (turns : List Turn) → IsTrace set lines turns → without_registers (trace_text turns) ≡ device_text set lines
-run_left set lines turns h = text_left turns ∙ ap (flat_map answer_line) h.answers
+pub run_left : {S : Type 0} (world : World S) (lines : List DevLine) (turns : List Turn) → IsTrace world lines turns → without_registers (trace_text turns) ≡ device_text world lines
+run_left world lines turns h = text_left turns ∙ ap (flat_map answer_line) h.answers

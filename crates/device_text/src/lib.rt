@@ -9,7 +9,7 @@ ghost use Rattle.device_text.specs.Outcome.{Outcome, IsOutcome};
 ghost use Rattle.device_text.specs.Answers.{answer_line};
 ghost use Rattle.device_schedule.specs.Turns.{Turn, IsTrace};
 ghost use Rattle.device_text.specs.Trace.{trace_lines, trace_text, without_registers};
-ghost use Rattle.usb_descriptor.specs.Set.{Set};
+ghost use Rattle.device_owners.specs.Device.{World};
 ghost use Rattle.device_line.specs.declared.line.DevLine.{DevLine};
 
 /// A law: a job is read in one way. No bytes have two outcomes: they spell one job at most, or their first line that is
@@ -26,6 +26,6 @@ pub fn without_register_lines()
 {}
 
 /// A law: a trace's text tells its accesses. Traces of one schedule with one text are one.
-pub fn trace_is_told()
-    ensures { (set : Set) (schedule : List DevLine) (a b : List Turn) → IsTrace set schedule a → IsTrace set schedule b → trace_text a ≡ trace_text b → a ≡ b }
+pub fn trace_is_told<S>()
+    ensures { (world : World S) (schedule : List DevLine) (a b : List Turn) → IsTrace world schedule a → IsTrace world schedule b → trace_text a ≡ trace_text b → a ≡ b }
 {}

@@ -18,6 +18,10 @@ use Rattle.device_line.specs.declared.line.DevLine.{DevLine}
 use Rattle.usb_text.specs.declared.head.HeadLine.{HeadLine}
 use Rattle.usb_text.specs.Line.{newline, schedule_text_of, IsDeviceLine}
 use Rattle.usb_text.specs.Plain.{is_plain}
+use Rattle.device_owners.specs.Device.{World}
+use Rattle.device_world.specs.State.{State}
+use Rattle.device_world.specs.World.{world_of}
+use Rattle.device_run.specs.Run.{world}
 use Rattle.device_schedule.specs.Schedule.{answers}
 use Rattle.device_text.specs.Answers.{answer_line}
 use Rattle.device_schedule.specs.Turns.{Turn, IsTrace}
@@ -106,6 +110,10 @@ head_front draft left left' new rest h ends e =
 some_is : (r : Option (ArrayVec ℕ)) → is_some r ≡ is_some (option_map (λ (v : ArrayVec ℕ). v.items) r)
 some_is None = refl
 some_is (Some v) = refl
+
+-- a world is that of its set and its disk
+pub world_is : (set set' : Set) (blocks blocks' : Option ℕ) → set ≡ set' → blocks ≡ blocks' → world_of set blocks ≡ world_of set' blocks'
+world_is set set' blocks blocks' s b = ap (λ (x : Set). world_of x blocks) s ∙ ap (λ (x : Option ℕ). world_of set' x) b
 
 -- the set of a draft is accepted where no rule is broken
 pub set_accepted : (draft : Draft) (set : Set) → set ≡ record {
@@ -277,29 +285,29 @@ all_told a b done [] (x ∷ xs) more none part h = absurd (cc (part))
 all_told a b done (r ∷ rs) given more none part h = absurd (cc (none))
 
 -- the output's text of the first lines, in front of that of all
-out_part_of : (regs : Bool) (set : Set) (schedule : List DevLine) (turns done rest : List Turn) → IsTrace set schedule turns → turns ≡ done ++ rest
-    → (more : List ℕ) × (out_text regs turns (answers set schedule) ≡ (texts_of regs done).out ++ more)
-out_part_of true set schedule turns done rest h e = (trace_text rest, ap trace_text e ∙ trace_text-append done rest)
-out_part_of false set schedule turns done rest h e = (
+out_part_of : {S : Type 0} (regs : Bool) (world : World S) (schedule : List DevLine) (turns done rest : List Turn) → IsTrace world schedule turns → turns ≡ done ++ rest
+    → (more : List ℕ) × (out_text regs turns (answers world schedule) ≡ (texts_of regs done).out ++ more)
+out_part_of true world schedule turns done rest h e = (trace_text rest, ap trace_text e ∙ trace_text-append done rest)
+out_part_of false world schedule turns done rest h e = (
   flat_map answer_line (map (λ turn. turn.answer) rest),
   ap (flat_map answer_line) (sym h.answers ∙ ap (map (λ turn. turn.answer)) e ∙ map-append (λ turn. turn.answer) done rest)
       ∙ flat_map-append answer_line (map (λ turn. turn.answer) done) (map (λ turn. turn.answer) rest),
 )
 
 -- and where there are no others
-out_is : (regs : Bool) (set : Set) (schedule : List DevLine) (turns done rest : List Turn) → IsTrace set schedule turns → turns ≡ done ++ rest → rest ≡ []
-    → (texts_of regs done).out ≡ out_text regs turns (answers set schedule)
-out_is regs set schedule turns done rest h e none = by_way regs where
+out_is : {S : Type 0} (regs : Bool) (world : World S) (schedule : List DevLine) (turns done rest : List Turn) → IsTrace world schedule turns → turns ≡ done ++ rest → rest ≡ []
+    → (texts_of regs done).out ≡ out_text regs turns (answers world schedule)
+out_is regs world schedule turns done rest h e none = by_way regs where
   same : done ≡ turns
   same = sym (append-nil done) ∙ ap (λ x. done ++ x) (sym none) ∙ sym e
 
-  by_way : (b : Bool) → (texts_of b done).out ≡ out_text b turns (answers set schedule)
+  by_way : (b : Bool) → (texts_of b done).out ≡ out_text b turns (answers world schedule)
   by_way true = ap trace_text same
   by_way false = ap (λ (x : List Turn). flat_map answer_line (map (λ turn. turn.answer) x)) same ∙ ap (flat_map answer_line) h.answers
 
 module _ (left0 left1 left2 : Option (List ℕ)) (draft : Draft) (l1 : Lines) (h : HeadSoFar draft left0 left1 new_lines l1) (ok : IsAccepted h.heads)
     (taken0 taken1 taken2 traced0 traced1 : Option (List ℕ)) (s s' : Session) (regs : Bool) (starts : s.lines ≡ l1) (has_regs : s.texts.regs ≡ regs)
-    (has_set : s.run.set ≡ set_of h.heads) (ends : s'.lines.ended ≡ true → IsAtEnd left2) (faults faults' out0 out2 trace0 trace1 : ℕ)
+    (has_world : (world s.run) ≡ world_of (set_of h.heads) None) (ends : s'.lines.ended ≡ true → IsAtEnd left2) (faults faults' out0 out2 trace0 trace1 : ℕ)
     (r : Stop) (u : Runs r left1 left2 (both taken0 traced0) (both taken1 traced1) s s') (waiting : Texts) (k : HandsOut taken1 taken2 s'.texts waiting) where
   abbrev all_ways : Ways
   all_ways = ways left0 left2 faults faults' taken0 taken2 out0 out2 traced0 traced1 trace0 trace1
@@ -308,8 +316,8 @@ module _ (left0 left1 left2 : Option (List ℕ)) (draft : Draft) (l1 : Lines) (h
   gone = gone_more left0 left1 left2 new_lines l1 s'.lines (head_lines h.heads) (schedule_text u.lines) (length h.heads) (length u.lines)
       (closed_heads h.heads) h.gone (subst (λ (l : Lines). Gone left1 left2 l s'.lines (schedule_text u.lines) (length u.lines)) starts u.gone)
 
-  traces : IsTrace (set_of h.heads) u.lines u.turns
-  traces = subst (λ (x : Set). IsTrace x u.lines u.turns) has_set u.traces
+  traces : IsTrace (world_of (set_of h.heads) None) u.lines u.turns
+  traces = subst (λ (x : World State). IsTrace x u.lines u.turns) has_world u.traces
 
   -- what the output's sink took
   hands : HandsOut taken0 taken2 (texts_of regs u.sinks.done) waiting
@@ -324,14 +332,14 @@ module _ (left0 left1 left2 : Option (List ℕ)) (draft : Draft) (l1 : Lines) (h
     in_order = u.in_order;
     trace = subst (λ (x : List Turn). Takes traced0 traced1 (trace_text x)) (sym u.sinks.lines)
         (all_told traced0 traced1 u.sinks.done u.sinks.rest u.sinks.given u.sinks.more (u.sinks.whole told) u.sinks.part u.sinks.trace);
-    told = run_left (set_of h.heads) u.lines u.turns traces;
-    out = subst (Takes taken0 taken2) (out_is regs (set_of h.heads) u.lines u.turns u.sinks.done u.sinks.rest traces u.sinks.lines (u.sinks.whole told))
+    told = run_left (world_of (set_of h.heads) None) u.lines u.turns traces;
+    out = subst (Takes taken0 taken2) (out_is regs (world_of (set_of h.heads) None) u.lines u.turns u.sinks.done u.sinks.rest traces u.sinks.lines (u.sinks.whole told))
         (all_taken taken0 taken2 (texts_of regs u.sinks.done).out waiting.out hands.out none);
   }
 
   writes_front : WritesFront regs h.heads u.lines all_ways
   writes_front =
-      let part = out_part_of regs (set_of h.heads) u.lines u.turns u.sinks.done u.sinks.rest traces u.sinks.lines in
+      let part = out_part_of regs (world_of (set_of h.heads) None) u.lines u.turns u.sinks.done u.sinks.rest traces u.sinks.lines in
       record {
         turns = u.turns;
         is_trace = traces;
@@ -461,7 +469,7 @@ rose_by a b e = omega (arith, e)
 -- how a run that stopped ends
 module _ (left0 left1 left2 : Option (List ℕ)) (draft : Draft) (l1 : Lines) (h : HeadSoFar draft left0 left1 new_lines l1) (ok : IsAccepted h.heads)
     (taken0 taken1 taken2 traced0 traced1 : Option (List ℕ)) (s s' : Session) (regs : Bool) (starts : s.lines ≡ l1) (has_regs : s.texts.regs ≡ regs)
-    (has_set : s.run.set ≡ set_of h.heads) (ends : s'.lines.ended ≡ true → IsAtEnd left2) (faults faults' out0 out1 out2 trace0 trace1 : ℕ)
+    (has_world : (world s.run) ≡ world_of (set_of h.heads) None) (ends : s'.lines.ended ≡ true → IsAtEnd left2) (faults faults' out0 out1 out2 trace0 trace1 : ℕ)
     (waiting : Texts) (k : HandsOut taken1 taken2 s'.texts waiting) (ended : Status) where
   abbrev the_ways : Ways
   the_ways = ways left0 left2 faults faults' taken0 taken2 out0 out2 traced0 traced1 trace0 trace1
@@ -471,31 +479,31 @@ module _ (left0 left1 left2 : Option (List ℕ)) (draft : Draft) (l1 : Lines) (h
       → Ends ended regs the_ways
   closed_ends r u (inl c) e told all =
       subst (λ (x : Status). Ends x regs the_ways) (sym c.0)
-      (all (writes left0 left1 left2 draft l1 h ok taken0 taken1 taken2 traced0 traced1 s s' regs starts has_regs has_set ends faults faults' out0 out2 trace0 trace1 r u waiting k c.1 told))
+      (all (writes left0 left1 left2 draft l1 h ok taken0 taken1 taken2 traced0 traced1 s s' regs starts has_regs has_world ends faults faults' out0 out2 trace0 trace1 r u waiting k c.1 told))
   closed_ends r u (inr c) e told all =
       subst (λ (x : Status). Ends x regs the_ways) (sym c.0)
-      (write_ends left0 left1 left2 draft l1 h ok taken0 taken1 taken2 traced0 traced1 s s' regs starts has_regs has_set ends faults faults' out0 out2 trace0 trace1 r u waiting k
+      (write_ends left0 left1 left2 draft l1 h ok taken0 taken1 taken2 traced0 traced1 s s' regs starts has_regs has_world ends faults faults' out0 out2 trace0 trace1 r u waiting k
       (inl (rose_by out0 out2 (c.1 ∙ ap counted e))))
 
   pub run_ends : (r : Stop) (u : Runs r left1 left2 (both taken0 traced0) (both taken1 traced1) s s') → Finishes r s'.lines.lines ended waiting out1 out2
       → out1 ≡ out_faults r out0 → trace1 ≡ trace_faults r trace0 → (r ≡ stop.ReadFault → Rose faults faults') → Ends ended regs the_ways
   run_ends stop.End u f o t rf = closed_ends stop.End u f o (λ e. cc (e))
-      (end_ends left0 left1 left2 draft l1 h ok taken0 taken1 taken2 traced0 traced1 s s' regs starts has_regs has_set ends faults faults' out0 out2 trace0 trace1 stop.End u waiting k u.cause)
+      (end_ends left0 left1 left2 draft l1 h ok taken0 taken1 taken2 traced0 traced1 s s' regs starts has_regs has_world ends faults faults' out0 out2 trace0 trace1 stop.End u waiting k u.cause)
   run_ends (stop.Refused rule) u f o t rf = closed_ends (stop.Refused rule) u f o (λ e. cc (e))
-      (line_ends left0 left1 left2 draft l1 h ok taken0 taken1 taken2 traced0 traced1 s s' regs starts has_regs has_set ends faults faults' out0 out2 trace0 trace1 (stop.Refused rule) u waiting k rule u.cause)
+      (line_ends left0 left1 left2 draft l1 h ok taken0 taken1 taken2 traced0 traced1 s s' regs starts has_regs has_world ends faults faults' out0 out2 trace0 trace1 (stop.Refused rule) u waiting k rule u.cause)
   run_ends stop.Short u f o t rf = closed_ends stop.Short u f o (λ e. cc (e))
-      (source_ends left0 left1 left2 draft l1 h ok taken0 taken1 taken2 traced0 traced1 s s' regs starts has_regs has_set ends faults faults' out0 out2 trace0 trace1 stop.Short u waiting k u.cause)
+      (source_ends left0 left1 left2 draft l1 h ok taken0 taken1 taken2 traced0 traced1 s s' regs starts has_regs has_world ends faults faults' out0 out2 trace0 trace1 stop.Short u waiting k u.cause)
   run_ends stop.TooLong u f o t rf = closed_ends stop.TooLong u f o (λ e. cc (e))
-      (limit_ends left0 left1 left2 draft l1 h ok taken0 taken1 taken2 traced0 traced1 s s' regs starts has_regs has_set ends faults faults' out0 out2 trace0 trace1 stop.TooLong u waiting k u.cause)
+      (limit_ends left0 left1 left2 draft l1 h ok taken0 taken1 taken2 traced0 traced1 s s' regs starts has_regs has_world ends faults faults' out0 out2 trace0 trace1 stop.TooLong u waiting k u.cause)
   run_ends stop.ReadFault u f o t rf = closed_ends stop.ReadFault u f o (λ e. cc (e))
-      (read_ends left0 left1 left2 draft l1 h ok taken0 taken1 taken2 traced0 traced1 s s' regs starts has_regs has_set ends faults faults' out0 out2 trace0 trace1 stop.ReadFault u waiting k (u.cut refl) (rf refl))
+      (read_ends left0 left1 left2 draft l1 h ok taken0 taken1 taken2 traced0 traced1 s s' regs starts has_regs has_world ends faults faults' out0 out2 trace0 trace1 stop.ReadFault u waiting k (u.cut refl) (rf refl))
   run_ends stop.OutFault u f o t rf =
       subst (λ (x : Status). Ends x regs the_ways) (sym f.0)
-      (write_ends left0 left1 left2 draft l1 h ok taken0 taken1 taken2 traced0 traced1 s s' regs starts has_regs has_set ends faults faults' out0 out2 trace0 trace1 stop.OutFault u waiting k
+      (write_ends left0 left1 left2 draft l1 h ok taken0 taken1 taken2 traced0 traced1 s s' regs starts has_regs has_world ends faults faults' out0 out2 trace0 trace1 stop.OutFault u waiting k
       (inl (rose_by out0 out2 (f.1 ∙ o))))
   run_ends stop.TraceFault u f o t rf =
       subst (λ (x : Status). Ends x regs the_ways) (sym f.0)
-      (write_ends left0 left1 left2 draft l1 h ok taken0 taken1 taken2 traced0 traced1 s s' regs starts has_regs has_set ends faults faults' out0 out2 trace0 trace1 stop.TraceFault u waiting k
+      (write_ends left0 left1 left2 draft l1 h ok taken0 taken1 taken2 traced0 traced1 s s' regs starts has_regs has_world ends faults faults' out0 out2 trace0 trace1 stop.TraceFault u waiting k
       (inr (rose_by trace0 trace1 t)))
 
 -- how often the sinks failed in it

@@ -3,6 +3,7 @@ use Rattle.std.proofs.Common.{◌≡◌, ℕ, ◌≤◌, List, [], ◌∷◌, Bo
 use Rattle.usb_edge.specs.Stream.{Takes, Rose, counted}
 use Rattle.device_line.specs.declared.line.DevLine.{DevLine}
 use Rattle.usb_text.specs.declared.head.HeadLine.{HeadLine}
+use Rattle.device_world.specs.World.{world_of}
 use Rattle.device_schedule.specs.Schedule.{answers}
 use Rattle.device_schedule.specs.Turns.{Turn}
 use Rattle.device_text.specs.Trace.{trace_text}
@@ -111,8 +112,8 @@ no_turns (t ∷ ts) e = absurd (cc (e))
 writes_none : (regs : Bool) (head : List HeadLine) (schedule : List DevLine) (w : Ways) → schedule ≡ [] → Writes regs head schedule w → WritesNothing w
 writes_none regs head schedule w none h =
     let turns = no_turns h.turns (h.is_trace.lines ∙ none) in (
-      subst (Takes w.taken w.taken') (ap (λ (x : List Turn). out_text regs x (answers (set_of head) schedule)) turns
-          ∙ ap (λ (x : List DevLine). out_text regs [] (answers (set_of head) x)) none ∙ nothing regs) h.out,
+      subst (Takes w.taken w.taken') (ap (λ (x : List Turn). out_text regs x (answers (world_of (set_of head) None) schedule)) turns
+          ∙ ap (λ (x : List DevLine). out_text regs [] (answers (world_of (set_of head) None) x)) none ∙ nothing regs) h.out,
       subst (λ (x : List Turn). Takes w.traced w.traced' (trace_text x)) turns h.trace,
     ) where
       nothing : (b : Bool) → out_text b [] [] ≡ []

@@ -15,14 +15,17 @@ use Rattle.usb_text.specs.Plain.{is_plain}
 use Rattle.dwc2_regs.specs.declared.access.TheConstants.{FS4}
 use Rattle.device_table.specs.State.{Table, opened}
 use Rattle.usb_descriptor.specs.Set.{Set}
-use Rattle.device_machine.specs.Core.{Core, start}
-use Rattle.device_schedule.specs.Schedule.{core_answer, core_after}
+use Rattle.device_world.specs.State.{State}
+use Rattle.device_world.specs.World.{world_of}
+use Rattle.device_owners.specs.Device.{Device, World, start}
+use Rattle.device_owners.specs.Lines.{whole, line_answer, after_line, state_after, answer_to}
+use Rattle.device_owners.specs.Isolation.{Isolates}
 use Rattle.device_text.specs.Job.{schedule_line, schedule_text, end_line, closed, given, most_bytes}
 use Rattle.device_schedule.specs.Turns.{Turn, IsTurn, IsTrace, after_turn}
 use Rattle.device_text.specs.Trace.{trace_text}
-use Rattle.device_schedule.proofs.Answers.{core_state-more}
+use Rattle.device_schedule.proofs.Answers.{state_after-more}
 use Rattle.device_text.proofs.Traces.{after_turns-more, trace-more}
-use Rattle.device_run.specs.Run.{Run, Steps, loads_of}
+use Rattle.device_run.specs.Run.{Run, Steps, loads_of, world, answer_of}
 use Rattle.device_text.proofs.Closed.{closed_schedule}
 use Rattle.job_reader.specs.Stream.{bytes_left}
 use Rattle.job_reader.specs.Lines.{Finds, IsLineAt, Gone, IsCut, size_of}
@@ -113,11 +116,11 @@ turns told n left left' took mid took' old s new l e h a = record {
   fits = a.fits;
   gone = subst (λ (t : List ℕ). Gone left left' old.lines new.lines (t ++ newline ∷ []) 1) a.text
       (line_taken n left left' old.lines s.lines new.lines l.finds h a.rest a.ended a.count a.lines);
-  run = subst (λ (r : Run). Steps r new.run a.line (core_answer r.core a.line)) l.run a.run;
-  trace = subst (λ (t : Option (List ℕ)). Hears told t took'.trace (trace_part new.run.log (core_answer old.run.core a.line))) e
-      (subst (λ (r : Run). Hears told mid.trace took'.trace (trace_part new.run.log (core_answer r.core a.line))) l.run a.trace);
-  hands = out_joined told took.out mid.out took'.out old.texts s.texts new.texts new.run.log (core_answer old.run.core a.line) l.hands
-      (subst (λ (r : Run). HandsOut mid.out took'.out (added_where told s.texts new.run.log (core_answer r.core a.line)) new.texts) l.run a.hands);
+  run = subst (λ (r : Run). Steps r new.run a.line (answer_of r a.line)) l.run a.run;
+  trace = subst (λ (t : Option (List ℕ)). Hears told t took'.trace (trace_part new.run.log (answer_of old.run a.line))) e
+      (subst (λ (r : Run). Hears told mid.trace took'.trace (trace_part new.run.log (answer_of r a.line))) l.run a.trace);
+  hands = out_joined told took.out mid.out took'.out old.texts s.texts new.texts new.run.log (answer_of old.run a.line) l.hands
+      (subst (λ (r : Run). HandsOut mid.out took'.out (added_where told s.texts new.run.log (answer_of r a.line)) new.texts) l.run a.hands);
   short = a.short;
   more = omega (arith, a.count, l.finds.count, line_size n s.lines h);
 }
@@ -130,9 +133,9 @@ fits-more : (lines : List DevLine) (line : DevLine) → AllByRecursion IsDeviceL
 fits-more [] line h k = (k, tt)
 fits-more (l ∷ ls) line h k = (h.0, fits-more ls line h.1 k)
 
-pub progress_start : (left : Option (List ℕ)) (took : Took) (s : Session) → s.run.core ≡ start → s.run.table ≡ opened FS4 → s.texts.out ≡ []
-    → s.lines.count ≤ most_bytes → s.lines.lines ≤ s.lines.count → Progress left left took took s s
-progress_start left took s core table empty short few = record {
+pub progress_start : (left : Option (List ℕ)) (took : Took) (s : Session) → s.run.device ≡ start (world s.run) → s.run.table ≡ opened FS4 → s.texts.out ≡ []
+    → Isolates (world s.run) → s.lines.count ≤ most_bytes → s.lines.lines ≤ s.lines.count → Progress left left took took s s
+progress_start left took s device table empty apart short few = record {
   lines = [];
   fits = tt;
   gone = gone_nothing left s.lines;
@@ -141,12 +144,17 @@ progress_start left took s core table empty short few = record {
   order = order_start (loads_of s.run);
   trace = takes-nothing took.trace;
   hands = texts-nothing took.out s.texts empty;
-  set = refl;
-  core = core;
+  same = refl;
+  device = device;
+  apart = apart;
   table = table;
   short = short;
   few = few;
 }
+
+-- a line leaves the world
+world_stays : (old new : Run) → new.set ≡ old.set → new.blocks ≡ old.blocks → world new ≡ world old
+world_stays old new s b = ap (λ (x : Set). world_of x new.blocks) s ∙ ap (λ (x : Option ℕ). world_of old.set x) b
 
 -- the lines so far and then one more
 module _ (told : Bool) (left0 left left' : Option (List ℕ)) (took0 took took' : Took) (s0 s s' : Session) (p : Progress left0 left took0 took s0 s)
@@ -155,7 +163,7 @@ module _ (told : Bool) (left0 left left' : Option (List ℕ)) (took0 took took' 
   line = t.line
 
   abbrev answer : Answer
-  answer = core_answer s.run.core line
+  answer = answer_of s.run line
 
   abbrev turn : Turn
   turn = record { line = line; accesses = s'.run.log; answer = answer }
@@ -169,9 +177,15 @@ module _ (told : Bool) (left0 left left' : Option (List ℕ)) (took0 took took' 
       (subst (λ (x : List ℕ). Gone left0 left' s0.lines s'.lines x (length p.lines + 1)) (sym (schedule-more p.lines line))
       (gone_more left0 left left' s0.lines s.lines s'.lines (schedule_text p.lines) (schedule_line line) (length p.lines) 1 (closed_schedule p.lines) p.gone t.gone))
 
-  traces_on : IsTrace s0.run.set (p.lines ++ line ∷ []) (p.turns ++ turn ∷ [])
+  answer_is : answer ≡ answer_to (world s0.run) p.lines line
+  answer_is =
+      ap (λ (w : World State). line_answer (whole w) s.run.device line) p.same
+      ∙ ap (λ (d : Device State). line_answer (whole (world s0.run)) d line) p.device
+      ∙ p.apart.answers p.lines line
+
+  traces_on : IsTrace (world s0.run) (p.lines ++ line ∷ []) (p.turns ++ turn ∷ [])
   traces_on =
-      trace-more s0.run.set p.lines p.turns turn p.traces (ap (λ (c : Core). core_answer c line) p.core)
+      trace-more (world s0.run) p.lines p.turns turn p.traces answer_is
       (subst (λ (x : Table). IsTurn x line s'.run.log answer) p.table t.run.turn)
 
   order_on : StayInOrder (loads_of s'.run) (p.turns ++ turn ∷ [])
@@ -191,10 +205,12 @@ progress_more left0 left left' took0 took took' s0 s s' p t = record {
   order = order_on true left0 left left' took0 took took' s0 s s' p t;
   trace = trace-told took0.trace took.trace took'.trace p.turns (turn true left0 left left' took0 took took' s0 s s' p t) p.trace t.trace;
   hands = texts-more took0.out took.out took'.out s0.texts.regs p.turns (turn true left0 left left' took0 took took' s0 s s' p t) s.texts s'.texts p.hands t.hands;
-  set = t.run.set ∙ p.set;
-  core =
-      t.run.core ∙ ap (λ (x : Set). core_after x s.run.core t.line) p.set ∙ ap (λ (c : Core). core_after s0.run.set c t.line) p.core
-      ∙ sym (core_state-more s0.run.set start p.lines t.line);
+  same = world_stays s.run s'.run t.run.set t.run.blocks ∙ p.same;
+  device =
+      t.run.device ∙ ap (λ (w : World State). after_line (whole w) s.run.device t.line) p.same
+      ∙ ap (λ (d : Device State). after_line (whole (world s0.run)) d t.line) p.device
+      ∙ sym (state_after-more (world s0.run) p.lines t.line);
+  apart = p.apart;
   table =
       t.run.table ∙ ap (λ (x : Table). after_turn x t.line s'.run.log) p.table
       ∙ sym (after_turns-more (opened FS4) p.turns (turn true left0 left left' took0 took took' s0 s s' p t));

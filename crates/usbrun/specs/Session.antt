@@ -12,12 +12,13 @@ use Rattle.usb_text.specs.Scheduled.{Scheduled}
 use Rattle.usb_text.specs.declared.line.Line.TheVariants.{Device, End}
 use Rattle.usb_text.specs.Line.{newline, line_text, schedule_text_of, IsScheduled, IsDeviceLine}
 use Rattle.usb_text.specs.Plain.{is_plain}
-use Rattle.device_schedule.specs.Schedule.{core_answer, core_state}
+use Rattle.device_owners.specs.Isolation.{Isolates}
+use Rattle.device_owners.specs.Lines.{whole, state_after}
 use Rattle.device_text.specs.Job.{schedule_text, end_line, closed, given, most_bytes}
 use Rattle.device_schedule.specs.Turns.{Turn, after_turns, IsTrace}
 use Rattle.device_text.specs.Trace.{trace_text}
 use Rattle.access_order.specs.Order.{unused, after_runs}
-use Rattle.device_run.specs.Run.{Steps, Rests, loads_of}
+use Rattle.device_run.specs.Run.{Steps, Rests, loads_of, world, answer_of}
 use Rattle.job_reader.specs.Stream.{bytes_left}
 use Rattle.job_reader.specs.Lines.{Finds, IsNext, Gone, IsCut, size_of}
 use Rattle.usbrun.specs.Written.{AreInOrder}
@@ -45,9 +46,9 @@ pub record Answers (told : Bool) (n : ℕ) (took took' : Took) (old new : Sessio
   pub text : take n old.lines.reader ≡ line_text (Device line)
   pub rest : new.lines.reader ≡ drop (n + 1) old.lines.reader
   pub ended : new.lines.ended ≡ old.lines.ended
-  pub run : Steps old.run new.run line (core_answer old.run.core line)
-  pub trace : Hears told took.trace took'.trace (trace_part new.run.log (core_answer old.run.core line))
-  pub hands : HandsOut took.out took'.out (added_where told old.texts new.run.log (core_answer old.run.core line)) new.texts
+  pub run : Steps old.run new.run line (answer_of old.run line)
+  pub trace : Hears told took.trace took'.trace (trace_part new.run.log (answer_of old.run line))
+  pub hands : HandsOut took.out took'.out (added_where told old.texts new.run.log (answer_of old.run line)) new.texts
   pub count : new.lines.count ≡ old.lines.count + size_of n old.lines.reader
   pub lines : new.lines.lines ≡ old.lines.lines + 1
   pub short : new.lines.count ≤ most_bytes
@@ -104,9 +105,9 @@ pub record Turns (told : Bool) (left left' : Option (List ℕ)) (took took' : To
   pub line : DevLine
   pub fits : IsDeviceLine line
   pub gone : Gone left left' old.lines new.lines (line_text (Device line) ++ newline ∷ []) 1
-  pub run : Steps old.run new.run line (core_answer old.run.core line)
-  pub trace : Hears told took.trace took'.trace (trace_part new.run.log (core_answer old.run.core line))
-  pub hands : HandsOut took.out took'.out (added_where told old.texts new.run.log (core_answer old.run.core line)) new.texts
+  pub run : Steps old.run new.run line (answer_of old.run line)
+  pub trace : Hears told took.trace took'.trace (trace_part new.run.log (answer_of old.run line))
+  pub hands : HandsOut took.out took'.out (added_where told old.texts new.run.log (answer_of old.run line)) new.texts
   pub short : new.lines.count ≤ most_bytes
   pub more : old.lines.count < new.lines.count
 
@@ -168,12 +169,13 @@ pub record Progress (left left' : Option (List ℕ)) (took took' : Took) (old ne
   pub fits : AllByRecursion IsDeviceLine lines
   pub gone : Gone left left' old.lines new.lines (schedule_text lines) (length lines)
   pub turns : List Turn
-  pub traces : IsTrace old.run.set lines turns
+  pub traces : IsTrace (world old.run) lines turns
   pub order : StayInOrder (loads_of new.run) turns
   pub trace : Takes took.trace took'.trace (trace_text turns)
   pub hands : HandsOut took.out took'.out (texts_of old.texts.regs turns) new.texts
-  pub set : new.run.set ≡ old.run.set
-  pub core : new.run.core ≡ core_state old.run.set lines
+  pub same : world new.run ≡ world old.run
+  pub device : new.run.device ≡ state_after (whole (world old.run)) lines
+  pub apart : Isolates (world old.run)
   pub table : new.run.table ≡ after_turns (opened FS4) turns
   pub short : new.lines.count ≤ most_bytes
   pub few : new.lines.lines ≤ new.lines.count
@@ -197,7 +199,7 @@ pub record Runs (s : Stop) (left left' : Option (List ℕ)) (took took' : Took) 
   pub fits : AllByRecursion IsDeviceLine lines
   pub gone : Gone left left' old.lines new.lines (schedule_text lines) (length lines)
   pub turns : List Turn
-  pub traces : IsTrace old.run.set lines turns
+  pub traces : IsTrace (world old.run) lines turns
   pub in_order : AreInOrder turns
   pub sinks : Sinks s took took' old.texts.regs turns new.texts
   pub short : new.lines.count ≤ most_bytes

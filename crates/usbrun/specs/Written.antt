@@ -1,5 +1,5 @@
 -- What the sinks took of the texts of a schedule.
-use Rattle.std.specs.Prelude.{◌≡◌, ℕ, List, [], ◌++◌, map, Bool, true, Option}
+use Rattle.std.specs.Prelude.{◌≡◌, ℕ, List, [], ◌++◌, map, Bool, true, Option, None}
 use Rattle.usb_edge.specs.Stream.{Takes, TakesFront}
 use Rattle.device_line.specs.declared.line.DevLine.{DevLine}
 use Rattle.usb_text.specs.declared.head.HeadLine.{HeadLine}
@@ -9,6 +9,7 @@ use Rattle.device_text.specs.Answers.{device_text}
 use Rattle.device_schedule.specs.Turns.{Turn, IsTrace}
 use Rattle.device_text.specs.Trace.{trace_text, without_registers}
 use Rattle.device_text.specs.Outcome.{set_of}
+use Rattle.device_world.specs.World.{world_of}
 use Rattle.usbrun.specs.Texts.{out_text}
 
 -- a run's source and sinks, before and after it
@@ -54,21 +55,21 @@ AreInOrder turns = are_runs unused (map (λ turn. turn.accesses) turns) ≡ true
 -- Of a sink that tells nothing its text is still one of a real trace.
 pub record Writes (regs : Bool) (head : List HeadLine) (schedule : List DevLine) (w : Ways) : Type 0 where
   pub turns : List Turn
-  pub is_trace : IsTrace (set_of head) schedule turns
+  pub is_trace : IsTrace (world_of (set_of head) None) schedule turns
   pub in_order : AreInOrder turns
   pub trace : Takes w.traced w.traced' (trace_text turns)
   -- without its register lines the trace's text is that of the answers
-  pub told : without_registers (trace_text turns) ≡ device_text (set_of head) schedule
-  pub out : Takes w.taken w.taken' (out_text regs turns (answers (set_of head) schedule))
+  pub told : without_registers (trace_text turns) ≡ device_text (world_of (set_of head) None) schedule
+  pub out : Takes w.taken w.taken' (out_text regs turns (answers (world_of (set_of head) None) schedule))
 
 -- Each took the front of its text, and the trace is never behind the output: of some of the first lines the trace has the
 -- whole text, and the output has nothing that goes beyond theirs.
 pub record WritesFront (regs : Bool) (head : List HeadLine) (schedule : List DevLine) (w : Ways) : Type 0 where
   pub turns : List Turn
-  pub is_trace : IsTrace (set_of head) schedule turns
+  pub is_trace : IsTrace (world_of (set_of head) None) schedule turns
   pub in_order : AreInOrder turns
   pub trace : TakesFront w.traced w.traced' (trace_text turns)
-  pub out : TakesFront w.taken w.taken' (out_text regs turns (answers (set_of head) schedule))
+  pub out : TakesFront w.taken w.taken' (out_text regs turns (answers (world_of (set_of head) None) schedule))
   -- those first lines, and the others
   pub done : List Turn
   pub rest : List Turn

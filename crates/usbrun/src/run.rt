@@ -3,14 +3,15 @@ ghost use Rattle.dwc2_regs.specs.declared.access.TheConstants.{FS4};
 ghost use Rattle.device_table.specs.State.{opened};
 ghost use Rattle.usb_edge.specs.Stream.{Rose, IsAtEnd};
 ghost use Rattle.usb_edge.specs.Outcome.{faults_at_tell};
-ghost use Rattle.device_machine.specs.Core.{start};
+ghost use Rattle.device_owners.specs.Device.{start};
+ghost use Rattle.device_owners.specs.Isolation.{Isolates};
 ghost use Rattle.usb_text.specs.Line.{schedule_text_of, IsScheduled};
-ghost use Rattle.usb_text.specs.Scheduled.{Device, scheduled, device_line, run_line};
+ghost use Rattle.usb_text.specs.Scheduled.{Device, scheduled, run_line};
+ghost use Rattle.device_line.specs.declared.line.DevLine.TheVariants.{Bus as BusLine};
 ghost use Rattle.usb_packet.specs.declared.bus.BusAnswer.TheVariants.{Done};
 ghost use Rattle.device_line.specs.declared.line.Answer.TheVariants.{Bus, Reply as TheReply};
-ghost use Rattle.device_schedule.specs.Schedule.{core_answer};
 ghost use Rattle.device_text.specs.Job.{most_bytes};
-ghost use Rattle.device_run.specs.Run.{Steps};
+ghost use Rattle.device_run.specs.Run.{Steps, world, answer_of};
 ghost use Rattle.usbrun.specs.Stream.{HasRoom};
 ghost use Rattle.usbrun.specs.Texts.{trace_part, added_where, both, Hears};
 ghost use Rattle.job_reader.specs.Lines.{IsLineAt, size_of};
@@ -22,9 +23,9 @@ use crate::turn::{BusTurn, ReplyTurn};
 use dwc2_regs::Access;
 use job_reader::{Lines, Next, line_break};
 use usb_edge::{Sink, Source};
-use usb_packet::BusAnswer;
+use usb_packet::{BusAnswer, BusEvent};
 use usb_pipe::Reply;
-use usb_text::{DevCall, RunLine, ScheduleLine, ServedLine, read_run, read_schedule};
+use usb_text::{DevLine, RunLine, ScheduleLine, read_bus, read_run, read_schedule};
 
 /// The most bytes that a job has, up to and with its last line.
 const MOST_BYTES: u64 = 1_073_741_824;
@@ -40,9 +41,10 @@ pub fn run_schedule<S: Source, K: Sink, T: Sink>(
     requires count { session.old.lines.count ≤ most_bytes }
     requires lines { session.old.lines.lines ≤ session.old.lines.count }
     requires ended { (session.old.lines.ended ≡ true) → IsAtEnd (S.left src.old) }
-    requires start { session.old.run.core ≡ start }
+    requires start { session.old.run.device ≡ start (world session.old.run) }
     requires table { session.old.run.table ≡ opened FS4 }
     requires empty { session.old.texts.out ≡ [] }
+    requires apart { Isolates (world session.old.run) }
     ensures runs { Runs result (S.left src.old) (S.left src.new) (both (K.taken out.old) (T.taken trace.old)) (both (K.taken out.new) (T.taken trace.new)) session.old session.new }
     ensures ended { (session.new.lines.ended ≡ true) → IsAtEnd (S.left src.new) }
     ensures source { S.faults src.old ≤ S.faults src.new }
@@ -122,6 +124,9 @@ fn take_line<K: Sink, T: Sink>(
 {
     if let Some(run) = read_run(session.lines.line(n)) {
         return take_run(session, n, run, out, trace);
+    }
+    if let Some(event) = read_bus(session.lines.line(n)) {
+        return take_bus(session, n, &event, out, trace);
     }
     let read = read_schedule(session.lines.line(n));
     match &read {
@@ -203,13 +208,43 @@ fn take_run<K: Sink, T: Sink>(
     if told { None } else { Some(Stop::TraceFault) }
 }
 
+#[tactic(auto, using(crate::proofs::Handed::nothing_handed, crate::proofs::Handed::then_added))]
+/// The same where the line is a bus event.
+fn take_bus<K: Sink, T: Sink>(
+    session: &mut Session,
+    n: usize,
+    event: &BusEvent,
+    out: &mut K,
+    trace: &mut T,
+) -> Option<Stop>
+    requires count { session.old.lines.count ≤ most_bytes }
+    requires lines { session.old.lines.lines ≤ session.old.lines.count }
+    requires line { IsLineAt n session.old.lines }
+    requires text { take n session.old.lines.reader ≡ schedule_text_of (Device (BusLine event.now)) }
+    requires fits { IsScheduled (Device (BusLine event.now)) }
+    ensures takes { TakesLine result n (both (K.taken out.old) (T.taken trace.old)) (both (K.taken out.new) (T.taken trace.new)) session.old session.new }
+    ensures read_fault { result ≡ Some Stop.ReadFault → ⊥ }
+    ensures out_faults { K.faults out.new ≡ out_faults_at result (K.faults out.old) }
+    ensures trace_faults { T.faults trace.new ≡ trace_faults_at result (T.faults trace.old) }
+{
+    if is_too_long(&session.lines, n) {
+        return Some(Stop::TooLong);
+    }
+    if !make_room(session, out) {
+        return Some(Stop::OutFault);
+    }
+    let told = answer_bus(session, event, trace);
+    session.lines.take(n);
+    if told { None } else { Some(Stop::TraceFault) }
+}
+
 /// Lets the device serve one run, and tells of it as of the answer to any line.
 #[inline(always)]
 fn answer_run<T: Sink>(session: &mut Session, run: RunLine, trace: &mut T) -> bool
     requires { HasRoom session.old.texts.out }
-    ensures told { Hears result (T.taken trace.old) (T.taken trace.new) (trace_part session.new.run.log (core_answer session.old.run.core (run_line run))) }
-    ensures texts { session.new.texts ≡ added_where result session.old.texts session.new.run.log (core_answer session.old.run.core (run_line run)) }
-    ensures run { Steps session.old.run session.new.run (run_line run) (core_answer session.old.run.core (run_line run)) }
+    ensures told { Hears result (T.taken trace.old) (T.taken trace.new) (trace_part session.new.run.log (answer_of session.old.run (run_line run))) }
+    ensures texts { session.new.texts ≡ added_where result session.old.texts session.new.run.log (answer_of session.old.run (run_line run)) }
+    ensures run { Steps session.old.run session.new.run (run_line run) (answer_of session.old.run (run_line run)) }
     ensures lines { session.new.lines ≡ session.old.lines }
     ensures exact { T.faults trace.new ≡ faults_at_tell result (T.faults trace.old) }
 {
@@ -218,6 +253,19 @@ fn answer_run<T: Sink>(session: &mut Session, run: RunLine, trace: &mut T) -> bo
         RunLine::Task => session.run.task(),
     }
     tell_done(session.run.trace(), &mut session.texts, trace)
+}
+
+/// Lets the device answer a bus event, and tells of it as of the answer to any line.
+fn answer_bus<T: Sink>(session: &mut Session, event: &BusEvent, trace: &mut T) -> bool
+    requires { HasRoom session.old.texts.out }
+    ensures told { Hears result (T.taken trace.old) (T.taken trace.new) (trace_part session.new.run.log (answer_of session.old.run (BusLine event.now))) }
+    ensures texts { session.new.texts ≡ added_where result session.old.texts session.new.run.log (answer_of session.old.run (BusLine event.now)) }
+    ensures run { Steps session.old.run session.new.run (BusLine event.now) (answer_of session.old.run (BusLine event.now)) }
+    ensures lines { session.new.lines ≡ session.old.lines }
+    ensures exact { T.faults trace.new ≡ faults_at_tell result (T.faults trace.old) }
+{
+    let answer = session.run.bus(event);
+    tell_bus(session.run.trace(), &answer, &mut session.texts, trace)
 }
 
 #[tactic(auto, using(crate::proofs::Handed::nothing_handed))]
@@ -235,23 +283,20 @@ fn make_room<K: Sink>(session: &mut Session, out: &mut K) -> bool
 
 /// Lets the device answer a line, tells the trace its accesses and the answer, and puts what the output shows of them
 /// behind what waits: whether the trace took them.
-fn answer<T: Sink>(session: &mut Session, line: &ServedLine, trace: &mut T) -> bool
+fn answer<T: Sink>(session: &mut Session, line: &DevLine, trace: &mut T) -> bool
     requires { HasRoom session.old.texts.out }
-    ensures told { Hears result (T.taken trace.old) (T.taken trace.new) (trace_part session.new.run.log (core_answer session.old.run.core (device_line line.now))) }
-    ensures texts { session.new.texts ≡ added_where result session.old.texts session.new.run.log (core_answer session.old.run.core (device_line line.now)) }
-    ensures run { Steps session.old.run session.new.run (device_line line.now) (core_answer session.old.run.core (device_line line.now)) }
+    ensures told { Hears result (T.taken trace.old) (T.taken trace.new) (trace_part session.new.run.log (answer_of session.old.run line.now)) }
+    ensures texts { session.new.texts ≡ added_where result session.old.texts session.new.run.log (answer_of session.old.run line.now) }
+    ensures run { Steps session.old.run session.new.run line.now (answer_of session.old.run line.now) }
     ensures lines { session.new.lines ≡ session.old.lines }
     ensures exact { T.faults trace.new ≡ faults_at_tell result (T.faults trace.old) }
 {
     match line {
-        ServedLine::Bus(event) => {
-            let answer = session.run.bus(event);
-            tell_bus(session.run.trace(), &answer, &mut session.texts, trace)
-        }
-        ServedLine::Irq => answer_run(session, RunLine::Irq, trace),
-        ServedLine::Task => answer_run(session, RunLine::Task, trace),
-        ServedLine::State => {
-            let reply = session.run.reply(&DevCall::State);
+        DevLine::Bus(event) => answer_bus(session, event, trace),
+        DevLine::Irq => answer_run(session, RunLine::Irq, trace),
+        DevLine::Task => answer_run(session, RunLine::Task, trace),
+        DevLine::Call(call) => {
+            let reply = session.run.reply(call);
             tell_reply(session.run.trace(), &reply, &mut session.texts, trace)
         }
     }

@@ -1,7 +1,7 @@
-use Rattle.std.proofs.Common.{refl, ap, ◌∙◌, arith}
+use Rattle.std.proofs.Common.{None, refl, ap, ◌∙◌, arith}
 use Rattle.usb_edge.proofs.Streams.{rose_within}
 use Rattle.usbrun.specs.declared.texts.Texts.{Texts}
-use Rattle.usbrun.proofs.Endings.{head_ends, head_faults, set_ends, memory_ends, accepted, set_shows, run_ends, run_faults, set_accepted}
+use Rattle.usbrun.proofs.Endings.{head_ends, head_faults, set_ends, memory_ends, accepted, set_shows, run_ends, run_faults, set_accepted, world_is}
 use Rattle.usbrun.proofs.top.run_device.Goals as goal
 
 pub open-requires : goal.open-requires
@@ -37,7 +37,7 @@ returns-clause-ends g c =
     let ok = accepted c.in-Ok.draft _ _ c.read_heads.new.lines heads.0 heads.1 c.in-Ok-set_of.ensures.accepted in
     let shows = set_shows c.in-Ok.draft _ _ c.read_heads.new.lines heads.0 c.in-Ok-set_of.set c.in-Ok-set_of.ensures.shows in
     run_ends _ _ _ c.in-Ok.draft c.read_heads.new.lines heads.0 ok _ _ _ _ _ _ c.run_schedule-stop.new.session c.args.regs refl
-    (ap (λ (t : Texts). t.regs) c.new.ensures) (c.in-Ok-open.ensures.set ∙ shows) c.run_schedule-stop.ensures.ended _ _ _ _ _ _ _ _ c.finish.ensures.hands
+    (ap (λ (t : Texts). t.regs) c.new.ensures) (world_is _ _ _ None (c.in-Ok-open.ensures.set ∙ shows) c.in-Ok-open.ensures.blocks) c.run_schedule-stop.ensures.ended _ _ _ _ _ _ _ _ c.finish.ensures.hands
     c.finish.result c.run_schedule-stop.result c.run_schedule-stop.ensures.runs c.finish.ensures.finishes
     c.run_schedule-stop.ensures.out_faults c.run_schedule-stop.ensures.trace_faults
     (λ e. rose_within _ _ _ _ c.read_heads.ensures.count (c.run_schedule-stop.ensures.read_fault e) (omega arith))
