@@ -1,10 +1,10 @@
 //! Requests on endpoint 0 over the registers of the controller.
 ghost use Rattle.std.specs.Prelude.{◌≡◌, ℕ, ◌<◌, ◌≤◌, [], slice_index};
-ghost use Rattle.dwc2_regs.specs.declared.access.TheConstants.{FS4};
-ghost use Rattle.usbd_core.specs.Device.{Agrees};
+ghost use Rattle.usbd_core.specs.View.{IsWhole};
 
 use crate::sets::{DEVICE, set_of};
 use arrayvec::ArrayVec;
+use device_classes::DeviceClasses;
 use device_relation::laws::event_fits;
 use dwc2_access::Regs;
 use dwc2_devmodel::DevCore;
@@ -15,9 +15,14 @@ use usb_control::CoreState;
 use usb_descriptor::StringPart;
 use usb_packet::{BusAnswer, BusEvent, Packet, Toggle};
 use usbd_core::DevStack;
-use usbd_core::laws::bus_keeps;
+use usbd_core::laws::{bus_keeps, events_keep_whole};
 
-type Device = DevStack<DevCore>;
+/// The software of a device over the controller, and its classes.
+#[derive(Drop)]
+struct Device {
+    stack: DevStack<DevCore>,
+    classes: DeviceClasses,
+}
 
 /// Configuration 3: interface 0 with the bulk endpoints 81 and 01, interface 1 with the interrupt endpoint 02 of 8
 /// bytes. A descriptor of 5 bytes of a type that no rule speaks of stands in it.
@@ -25,9 +30,8 @@ const CONFIG: &[u8] =
     b"\x09\x02\x35\x00\x02\x03\x00\xc0\x32\x09\x04\x00\x00\x02\xff\x00\x00\x00\x07\x05\x81\x02\x40\x00\x00\x07\x05\x01\x02\x40\x00\x00\x05\x41\x00\x00\x00\x09\x04\x01\x00\x01\xff\x00\x00\x00\x07\x05\x02\x03\x08\x00\x0a";
 
 /// A device with this configuration and string 1, the letter A.
-fn device(rt: &impl Abort, alloc: Global, config: &[u8]) -> Device
-    ensures agrees { Agrees FS4 result }
-    ensures still { result.port.bank.due ≡ [] }
+fn opened(rt: &impl Abort, alloc: Global, config: &[u8]) -> Device
+    ensures { IsWhole result.stack }
 {
     let mut body = ArrayVec::new();
     body.push(b'A');
@@ -36,7 +40,9 @@ fn device(rt: &impl Abort, alloc: Global, config: &[u8]) -> Device
     let mut bytes = ArrayVec::<u8, 512>::new();
     let _ = bytes.try_extend_from_slice(config);
     let set = set_of(bytes.as_slice(), &strings).expect(rt, "accepted");
-    DevStack::open(alloc, DevCore::new(FS4), set, FS4).expect(rt, "memory")
+    let classes = DeviceClasses::new(&set);
+    let stack = DevStack::open(alloc, DevCore::new(FS4), set, FS4).expect(rt, "memory");
+    Device { stack, classes }
 }
 
 /// A configuration of so many bytes, from 20 on: an interface, and a descriptor of a type that no rule speaks of.
@@ -53,68 +59,58 @@ fn config_of(bytes: u8) -> ArrayVec<u8, 512> {
 
 /// A device that was reset.
 fn awake(rt: &impl Abort, alloc: Global, config: &[u8]) -> Device
-    ensures agrees { Agrees FS4 result }
-    ensures still { result.port.bank.due ≡ [] }
+    ensures { IsWhole result.stack }
 {
-    let mut device = device(rt, alloc, config);
+    let mut device = opened(rt, alloc, config);
     let _ = bus(&mut device, &BusEvent::Reset);
     irq(&mut device);
     device
 }
 
 fn bus(device: &mut Device, event: &BusEvent) -> BusAnswer
-    requires agrees { Agrees FS4 device.old }
-    requires still { device.old.port.bank.due ≡ [] }
-    ensures agrees { Agrees FS4 device.new }
-    ensures still { device.new.port.bank.due ≡ [] }
+    requires { IsWhole device.old.stack }
+    ensures { IsWhole device.new.stack }
 {
     event_fits(event);
     bus_keeps();
-    device.regs().bus(event)
+    events_keep_whole();
+    device.stack.regs().bus(event)
 }
 
 /// A handler run, with 400 accesses allowed.
 fn irq(device: &mut Device)
-    requires agrees { Agrees FS4 device.old }
-    requires still { device.old.port.bank.due ≡ [] }
-    ensures agrees { Agrees FS4 device.new }
-    ensures still { device.new.port.bank.due ≡ [] }
+    requires { IsWhole device.old.stack }
+    ensures { IsWhole device.new.stack }
 {
-    device.regs().begin();
-    device.irq();
+    device.stack.regs().begin();
+    device.stack.irq(&mut device.classes);
 }
 
 /// A task run, with as many.
 fn task(device: &mut Device)
-    requires agrees { Agrees FS4 device.old }
-    requires still { device.old.port.bank.due ≡ [] }
-    ensures agrees { Agrees FS4 device.new }
-    ensures still { device.new.port.bank.due ≡ [] }
+    requires { IsWhole device.old.stack }
+    ensures { IsWhole device.new.stack }
 {
-    device.regs().begin();
-    device.task();
+    device.stack.regs().begin();
+    device.stack.task(&mut device.classes);
 }
 
 fn state(device: &Device) -> CoreState
-    requires { Agrees FS4 device.now }
+    requires { IsWhole device.now.stack }
 {
-    device.state()
+    device.stack.state()
 }
 
 fn token(device: &mut Device, addr: u8, ep: u8, ok: bool) -> BusAnswer
-    requires agrees { Agrees FS4 device.old }
-    requires still { device.old.port.bank.due ≡ [] }
-    ensures agrees { Agrees FS4 device.new }
-    ensures still { device.new.port.bank.due ≡ [] }
+    requires { IsWhole device.old.stack }
+    ensures { IsWhole device.new.stack }
 {
     bus(device, &BusEvent::In { addr, ep, ok })
 }
 
 fn send(device: &mut Device, ep: u8, toggle: Toggle, bytes: &[u8]) -> BusAnswer
-    requires agrees { Agrees FS4 device.old }
-    requires still { device.old.port.bank.due ≡ [] }
-    ensures agrees { Agrees FS4 device.new }
-    ensures still { device.new.port.bank.due ≡ [] }
+    requires { IsWhole device.old.stack }
+    ensures { IsWhole device.new.stack }
 {
     let packet = Packet::new(bytes).unwrap_or(Packet::empty());
     bus(
@@ -131,10 +127,8 @@ fn send(device: &mut Device, ep: u8, toggle: Toggle, bytes: &[u8]) -> BusAnswer
 
 /// A request up to the answer to the first IN token, at address 0.
 fn ask(device: &mut Device, bytes: [u8; 8]) -> BusAnswer
-    requires agrees { Agrees FS4 device.old }
-    requires still { device.old.port.bank.due ≡ [] }
-    ensures agrees { Agrees FS4 device.new }
-    ensures still { device.new.port.bank.due ≡ [] }
+    requires { IsWhole device.old.stack }
+    ensures { IsWhole device.new.stack }
 {
     let _ = bus(
         device,
@@ -150,10 +144,8 @@ fn ask(device: &mut Device, bytes: [u8; 8]) -> BusAnswer
 
 /// The answer to the next IN token, once a task and a handler run brought the packet.
 fn next(device: &mut Device) -> BusAnswer
-    requires agrees { Agrees FS4 device.old }
-    requires still { device.old.port.bank.due ≡ [] }
-    ensures agrees { Agrees FS4 device.new }
-    ensures still { device.new.port.bank.due ≡ [] }
+    requires { IsWhole device.old.stack }
+    ensures { IsWhole device.new.stack }
 {
     task(device);
     irq(device);
@@ -178,10 +170,8 @@ fn is_part(answer: &BusAnswer, toggle: Toggle, bytes: &[u8], from: usize) -> boo
 
 /// SET_CONFIGURATION with this value.
 fn configure(device: &mut Device, value: u8) -> bool
-    requires agrees { Agrees FS4 device.old }
-    requires still { device.old.port.bank.due ≡ [] }
-    ensures agrees { Agrees FS4 device.new }
-    ensures still { device.new.port.bank.due ≡ [] }
+    requires { IsWhole device.old.stack }
+    ensures { IsWhole device.new.stack }
 {
     let answer = ask(device, [0, 9, value, 0, 0, 0, 0, 0]);
     task(device);

@@ -1,8 +1,6 @@
--- The device agrees with its controller, and no bus event is due.
-use Rattle.std.proofs.Common.{◌≡◌, []}
-use Rattle.dwc2_regs.specs.declared.access.TheConstants.{FS4}
-use Rattle.usbd_core.specs.Device.{Agrees}
+-- What holds of the device's software between two tasks.
+use Rattle.usbd_core.specs.View.{IsWhole}
 use Rattle.stack_tests.proofs.stack.packets.Given as goal
 
 abbrev pub invariant-loop-allowed : goal.invariant-loop-allowed
-invariant-loop-allowed g l = record { agrees : Agrees FS4 l.device; still : l.device.port.bank.due ≡ [] }
+invariant-loop-allowed g l = IsWhole l.device.stack
