@@ -1,13 +1,24 @@
 #!/usr/bin/env python3
-"""A job of about so many lines: an enumeration again and again. jobs.py LINES
+"""A job of about so many lines: jobs.py KIND LINES
+
+    enumeration    an enumeration again and again
+    received       a serial port takes packets of 64 bytes, and its application reads them
+    sent           its application writes 64 bytes, and the host gets them with the empty packet behind them
 
 Handler runs and tasks come only where they have something to do, so that idle ones don't make a line look cheap.
 """
 
 import sys
 
-HEAD = "device 1201000200000040feca0140000100000001\nconfig 0902120001010080320904000000ff000000\nbegin\n"
+DEVICE = "device 1201000200000040feca0140000100000001\n"
+PLAIN = DEVICE + "config 0902120001010080320904000000ff000000\nbegin\n"
+SERIAL = (
+    DEVICE
+    + "config 09023500020100803209040000010202000005240600010705810310001009040100020a0000000705020240000007058202400000\n"
+    + "begin\n"
+)
 RESET = "reset\nirq\n"
+BYTES = bytes(range(64)).hex()
 
 
 def reading(address, setup):
@@ -20,7 +31,8 @@ def order(address, setup):
     return f"setup {address} {setup} ok\nirq\ntask\nirq\nin {address} 0 ok\nirq\ntask\n"
 
 
-ROUND = (
+SESSION = RESET + order(0, "0005010000000000") + order(1, "0009010000000000")
+ENUMERATION = (
     RESET
     + reading(0, "8006000100004000")
     + RESET
@@ -30,8 +42,14 @@ ROUND = (
     + reading(1, "8006000200001200")
     + order(1, "0009010000000000")
 )
+RECEIVED = "".join(f"out 1 2 {toggle} {BYTES} ok\nirq\ntask\ncdc read 64\n" for toggle in (0, 1))
+SENT = f"cdc write {BYTES}\ncdc flush\nirq\nin 1 2 ok\nirq\ntask\nirq\nin 1 2 ok\nirq\ntask\n"
 
-sys.stdout.write(HEAD)
-for _ in range(int(sys.argv[1]) // ROUND.count("\n")):
-    sys.stdout.write(ROUND)
+# the lines before the rounds, and those of a round
+JOBS = {"enumeration": (PLAIN, ENUMERATION), "received": (SERIAL + SESSION, RECEIVED), "sent": (SERIAL + SESSION, SENT)}
+
+first, each = JOBS[sys.argv[1]]
+sys.stdout.write(first)
+for _ in range(int(sys.argv[2]) // each.count("\n")):
+    sys.stdout.write(each)
 sys.stdout.write("end\n")

@@ -1,11 +1,11 @@
 #!/usr/bin/env bash
-# What a line costs: instructions, beside their target, and seconds and peak memory. The job is an enumeration again and again.
+# What a line costs: instructions, beside their targets, and seconds and peak memory. The jobs are those of bench/jobs.py.
 # Wants Debian's packages valgrind and time, and python3: bench/run.sh [PROGRAM]
 set -eu
 top=$(cd "$(dirname "$0")/.." && pwd)
-# The most instructions that a line may take where the register lines are dropped. A plain program without proofs, with the
-# same registers and a driver over them, takes so many.
-TARGET=585
+# The most instructions that a line of each job may take where the register lines are dropped. A plain program without proofs,
+# with the same registers and a driver over them, takes so many.
+declare -A TARGETS=([enumeration]=585 [received]=1018 [sent]=1154)
 work=$(mktemp -d)
 trap 'rm -rf "$work"' EXIT
 
@@ -28,13 +28,15 @@ instructions() {
 }
 
 if command -v valgrind >/dev/null 2>&1; then
-    python3 "$top/bench/jobs.py" 100000 >"$work/job"
-    lines=$(wc -l <"$work/job")
-    dropped=$(instructions "$lines" device)
-    verdict=missed
-    [ "$dropped" -gt "$TARGET" ] || verdict=met
-    echo "instructions a line over $lines lines, $(named device): $dropped; target at most $TARGET: $verdict"
-    echo "instructions a line over $lines lines, $(named device --regs): $(instructions "$lines" device --regs)"
+    for kind in enumeration received sent; do
+        python3 "$top/bench/jobs.py" "$kind" 100000 >"$work/job"
+        lines=$(wc -l <"$work/job")
+        dropped=$(instructions "$lines" device)
+        verdict=missed
+        [ "$dropped" -gt "${TARGETS[$kind]}" ] || verdict=met
+        echo "$kind: instructions a line over $lines lines, $(named device): $dropped; target at most ${TARGETS[$kind]}: $verdict"
+        echo "$kind: instructions a line over $lines lines, $(named device --regs): $(instructions "$lines" device --regs)"
+    done
 else
     echo "SKIPPED instructions: there is no valgrind"
 fi
@@ -43,14 +45,16 @@ if [ ! -x /usr/bin/time ]; then
     echo "SKIPPED seconds and memory: there is no /usr/bin/time"
     exit 0
 fi
-for about in 1000 1000000; do
-    python3 "$top/bench/jobs.py" "$about" >"$work/job"
-    lines=$(wc -l <"$work/job")
-    for words in device "device --regs"; do
-        # shellcheck disable=SC2086
-        /usr/bin/time -f '%e %M' -o "$work/time" "$program" $words <"$work/job" >"$work/out"
-        read -r seconds peak <"$work/time"
-        # shellcheck disable=SC2086
-        echo "$lines lines, $(named $words): $seconds s, $peak KB at most, $(wc -c <"$work/out") bytes written"
+for kind in enumeration received sent; do
+    for about in 1000 1000000; do
+        python3 "$top/bench/jobs.py" "$kind" "$about" >"$work/job"
+        lines=$(wc -l <"$work/job")
+        for words in device "device --regs"; do
+            # shellcheck disable=SC2086
+            /usr/bin/time -f '%e %M' -o "$work/time" "$program" $words <"$work/job" >"$work/out"
+            read -r seconds peak <"$work/time"
+            # shellcheck disable=SC2086
+            echo "$kind: $lines lines, $(named $words): $seconds s, $peak KB at most, $(wc -c <"$work/out") bytes written"
+        done
     done
 done

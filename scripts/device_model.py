@@ -8,7 +8,7 @@ PACKET = 64
 MOST_UNSERVED = 3
 LANGUAGES = b"\x04\x03\x09\x04"
 # the classes that the program drives; the endpoints of the others are the core's
-DRIVEN = frozenset()
+DRIVEN = frozenset({"cdc"})
 
 
 class Device:
@@ -88,6 +88,15 @@ class Device:
     def cdc(self, verb, *values):
         port = next((each for each in self.works() if isinstance(each, SerialPort)), None)
         return "closed" if port is None or not self.session else port.call(verb, *values)
+
+    def hid(self, *call):
+        return "closed"
+
+    def msc(self, *call):
+        return "closed"
+
+    def midi(self, *call):
+        return "closed"
 
     def reset(self):
         self.awake, self.was_reset = False, True

@@ -8,7 +8,9 @@ trace has to be a run of a model of the controller's registers. A run has 60 sec
     random_jobs.py PROGRAM [JOBS [SEED]]
 
 A quarter of the jobs have some bytes changed, so that most of these are refused, and a quarter a set that may be one
-that isn't accepted. The status is 1 where a run differs; the first job that does is printed.
+that isn't accepted. A job that ends with status 0 and whose device has a serial port is run twice more: without the port's lines,
+and without the lines of the device's other endpoints and its calls. What is left has to be answered as before. The status is 1 where
+a run differs; the first job that does is printed.
 """
 import random
 import sys
@@ -50,7 +52,7 @@ def serial_port(number_):
 def random_config(rng, sound):
     """A configuration of up to three interfaces or four. A sound one is of an accepted set."""
     body, count, free = b"", 0, [1, 2, 3, 0x81, 0x82, 0x83]
-    if rng.random() < 0.2:
+    if rng.random() < 0.4:
         body, count, free = serial_port(0), 2, [1, 2, 0x81]
     for _ in range(rng.choice([0, 1, 1, 2, 3])):
         body += random_interface(rng, count, free, sound)
@@ -132,9 +134,13 @@ class Lines:
         self.likely_share = rng.choice([0.1, 0.5, 0.9])
         self.address = 0
         self.lines = []
+        self.is_serial = config[9:].startswith(serial_port(0)[:9])
+        self.toggle = 0
 
     def next(self):
         rng = self.rng
+        if self.is_serial and rng.random() < 0.2:
+            return self.serial_call()
         kind = rng.choices(["reset", "irq", "task", "setup", "out", "in", "state"], self.weights)[0]
         address = self.address if rng.random() < 0.95 else rng.choice([0, 1, 2, rng.randrange(128)])
         endpoint = 0 if rng.random() < self.control_share else rng.randrange(5)
@@ -190,10 +196,52 @@ class Lines:
             setup = bytes([0, request, value]) + bytes(5)
             self.put(f"setup {{}} {setup.hex()} ok", "irq", "task", "irq", "in {} 0 ok", "irq", "task")
             self.address = value if request == 5 else self.address
+        self.toggle = 0
         for _ in range(self.rng.choice([1, 3, 10])):
             self.put(self.data_token())
             if self.rng.random() < 0.3:
                 self.control(self.request())
+            if self.is_serial:
+                self.serial_turn()
+                if self.rng.random() < 0.2:
+                    self.serial_requests()
+
+    def serial_call(self):
+        rng = self.rng
+        verb = rng.choice(["write", "write", "read", "read", "flush", "flush", "avail", "line", "notify"])
+        if verb == "write":
+            return f"cdc write {rng.randbytes(rng.choice([1, 2, 63, 64, 64, 65, 128, 192, 256, 257, 300])).hex()}"
+        if verb == "read":
+            return f"cdc read {rng.choice([1, 2, 63, 64, 65, 128, 256, 1024])}"
+        return f"cdc notify {rng.choice([0, 1, 3, 64, 65535])}" if verb == "notify" else f"cdc {verb}"
+
+    def serial_turn(self):
+        """Some of what an application, a host and the port do to each other: bytes either way, with handshakes that are lost."""
+        rng = self.rng
+        if rng.random() < 0.5:
+            size = rng.choice([0, 1, 8, 63, PACKET, PACKET, PACKET])
+            packet = f"out {{}} 3 {self.toggle} {rng.randbytes(size).hex() or '-'} ok"
+            self.put(*[packet] * rng.choice([1, 1, 1, 2]))
+            self.toggle ^= rng.random() < 0.95
+        else:
+            self.put(self.serial_call(), *rng.choice([[], ["cdc flush"]]), "irq")
+            self.put(*(f"in {{}} {rng.choice([2, 2, 3])} {rng.choice(['ok', 'ok', 'noack'])}" for _ in range(rng.choice([1, 2, 5]))))
+        self.turn()
+        self.put(*rng.choice([[], [self.serial_call()], ["cdc read 1024"]]))
+
+    def serial_requests(self):
+        """A line coding, which may be one that is refused, and other requests to the port."""
+        rng = self.rng
+        coding = rng.randrange(2**32).to_bytes(4, "little") + bytes(rng.choice(c) for c in ((0, 1, 2, 3), (0, 4, 5), (5, 8, 16, 9)))
+        coding = coding[: rng.choice([7, 7, 7, 7, 6, 0])] + b"\0" * rng.choice([0, 0, 0, 0, 1])
+        port = rng.choice(["00", "00", "00", "01"])
+        self.put(f"setup {{}} 21200000{port}000700 ok")
+        self.turn()
+        self.put(f"out {{}} 0 {rng.choice([1, 1, 1, 0])} {coding.hex() or '-'} ok")
+        self.turn()
+        self.put("in {} 0 ok", "irq", "task")
+        for setup in rng.sample([f"a1210000{port}000700", f"2122{rng.randrange(4):02x}00{port}000000", "0203000082000000", "0201000082000000"], 2):
+            self.control(bytes.fromhex(setup))
 
     def data_token(self):
         rng = self.rng
@@ -218,7 +266,7 @@ def random_job(rng, sound):
     while len(source.lines) < length:
         if rng.random() < whole:
             source.control(source.request())
-        elif len(config) > 5 and rng.random() < 0.05:
+        elif len(config) > 5 and rng.random() < (0.3 if source.is_serial else 0.05):
             source.session()
         else:
             source.lines.append(source.next())
@@ -258,13 +306,48 @@ def trace_of(program, job, answers):
     return check_trace(schedule_of(job), trace.decode(), answers.decode())
 
 
+def is_serial_line(line):
+    """Whether a line of a schedule is the serial port's alone: a call, or a packet on one of its endpoints."""
+    words = line.split(b" ")
+    ends = {b"out": (b"3",), b"in": (b"2", b"3")}
+    return words[0] == b"cdc" or (len(words) > 2 and words[2] in ends.get(words[0], ()))
+
+
+def is_core_line(line):
+    """Whether a line is a call of the core, or a packet on an endpoint that is neither endpoint 0 nor the port's."""
+    words = line.split(b" ")
+    return words[0] == b"state" or (words[0] in (b"out", b"in") and words[2] != b"0" and not is_serial_line(line))
+
+
+def part_fault(program, job, answers, is_left_out):
+    """What differs where the lines of one owner are left out, or None."""
+    lines, told = job.split(b"\n"), answers.split(b"\n")
+    first = lines.index(b"begin") + 1
+    kept = [at for at, line in enumerate(lines[first:]) if not is_left_out(line)]
+    short = b"\n".join(lines[:first] + [lines[first + at] for at in kept])
+    wanted = b"\n".join(told[at] for at in kept if at < len(told))
+    got = outcome([program, "device"], short)
+    return None if (got[0], got[1].strip(b"\n")) == (0, wanted.strip(b"\n")) else short
+
+
+def has_port(job):
+    """Whether the device of a job has the serial port of these jobs."""
+    return serial_port(0)[:9].hex().encode() in job.split(b"begin")[0]
+
+
+def parts_fault(program, job, answers):
+    """The job without one owner's lines that is answered otherwise, or None."""
+    faults = (part_fault(program, job, answers, left_out) for left_out in (is_serial_line, is_core_line))
+    return next((fault for fault in faults if fault is not None), None)
+
+
 def main():
     program = sys.argv[1]
     if not words_are_refused(program):
         return 1
     jobs = int(sys.argv[2]) if len(sys.argv) > 2 else 400
     rng = random.Random(int(sys.argv[3]) if len(sys.argv) > 3 else 1)
-    statuses, accesses = {}, 0
+    statuses, accesses, parts = {}, 0, 0
     for count in range(jobs):
         job = random_job(rng, sound=count % 2 == 1)
         if count % 4 == 0:
@@ -280,9 +363,17 @@ def main():
             sys.stdout.buffer.write(job)
             print(f"the trace of job {count} differs: {wrong}")
             return 1
+        has_parts = got[0] == 0 and has_port(job)
+        fault = parts_fault(program, job, got[1]) if has_parts else None
+        if fault is not None:
+            sys.stdout.buffer.write(job + b"\n-- without one owner's lines:\n" + fault)
+            print(f"a part of job {count} is answered otherwise")
+            return 1
+        parts += has_parts
         statuses[got[0]] = statuses.get(got[0], 0) + 1
     told = ", ".join(f"{count} with status {status}" for status, count in sorted(statuses.items()))
     print(f"random jobs: {jobs} of {jobs} agree ({told})")
+    print(f"parts: {parts} jobs are answered alike without one owner's lines")
     print(f"register accesses: {accesses} checked in {statuses.get(0, 0)} traces")
     return 0
 
