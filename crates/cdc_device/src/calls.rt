@@ -1,5 +1,5 @@
 // What an application asks.
-ghost use Rattle.std.specs.Prelude.{◌≡◌, ◌≢◌, ◌+◌, ◌≤◌, ◌&&◌, []};
+ghost use Rattle.std.specs.Prelude.{◌≡◌, ◌≢◌, ◌+◌, ◌≤◌, ◌&&◌, [], length, min};
 ghost use Rattle.usb_pipe.specs.Said.{Fits, SaysAlone, reply_with};
 ghost use Rattle.usb_pipe.specs.Own.{IsPipe, phase_at, given, read as read_, call_accesses, work_accesses};
 ghost use Rattle.cdc_device_machine.specs.Port.{read_size, is_shut, is_closed, start_reply, line_reply, notification, with_flush, with_notice, call_reply, pipes_after_call};
@@ -11,6 +11,9 @@ use usb_pipe::{CdcDeviceCall, DevPipes, Phase, Reply, Said, reply_of};
 
 /// The most bytes that a call reads.
 const MOST_READ: usize = 1024;
+
+/// What stands where bytes are read to.
+const BLANK: [u8; MOST_READ] = [0; MOST_READ];
 
 impl CdcDevice {
     /// Answers a call. The bytes of the answer are left in `bytes`, which is emptied first.
@@ -103,12 +106,26 @@ fn read<P: DevPipes>(pipes: &mut P, most: u16, bytes: &mut ArrayVec<u8, 4096>) -
     ensures sound { P.sound pipes.new }
     ensures spends { P.spare pipes.old ≤ P.spare pipes.new + work_accesses }
 {
-    let mut cells = [0; MOST_READ];
-    let size = (most as usize).min(MOST_READ);
-    let buf = &mut cells[..size];
-    let count = pipes.read(DATA_OUT, buf);
-    let _ = bytes.try_extend_from_slice(&buf[..count as usize]);
+    let count = first_bytes(most, pipes.held(DATA_OUT));
+    blank(bytes, count);
+    pipes.read(DATA_OUT, bytes.as_mut_slice());
     Said::Got
+}
+
+/// How many bytes a call reads that asks for so many, where so many are held.
+fn first_bytes(most: u16, held: u16) -> usize
+    ensures { result ≡ min (read_size most) held }
+{
+    (most as usize).min(MOST_READ).min(held as usize)
+}
+
+/// Lets an empty list have so many bytes, at most 1,024, to be read over.
+fn blank(bytes: &mut ArrayVec<u8, 4096>, count: usize)
+    requires few { count ≤ 1024 }
+    requires empty { bytes.old.items ≡ [] }
+    ensures { length bytes.new.items ≡ count }
+{
+    let _ = bytes.try_extend_from_slice(&BLANK[..count]);
 }
 
 /// Starts what is queued, where anything is.
