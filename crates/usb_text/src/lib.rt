@@ -16,7 +16,7 @@ pub use line::{Line, ScheduleLine};
 pub use line_rules::{LineFault, MOST_LINE, Mode, Place, lowest_rule};
 pub use reading::{RunLine, read_bus, read_head, read_line, read_run, read_schedule};
 pub use register_text::{MOST_ACCESS, Side, access_text, push_access_line};
-pub use reply::{MOST_ANSWER, answer_text, push_bus_line, push_done_line, push_reply_line};
+pub use reply::{MOST_ANSWER, answer_text, push_bus_line, push_done_line, push_said_line};
 pub use show::{head_text, line_text};
 
 #[cfg(test)]

@@ -4,13 +4,14 @@ ghost use Rattle.std.specs.Fmt.{decimal};
 ghost use Rattle.usb_words.specs.Field.{spaced, hex};
 ghost use Rattle.device_line.specs.declared.line.Answer.TheVariants.{Bus as TheBus, Reply as TheReply};
 ghost use Rattle.usb_packet.specs.declared.bus.BusAnswer.TheVariants.{Done};
+ghost use Rattle.usb_pipe.specs.Said.{Fits, reply_with};
 ghost use Rattle.usb_text.specs.Line.{answer_words, answer_text, newline};
 ghost use Rattle.usb_text.specs.Reply.{data_name, bus_words, host_words, reply_words};
 
 use arrayvec::ArrayVec;
 use device_line::Answer;
 use usb_packet::{BusAnswer, Packet, Toggle};
-use usb_pipe::{HostWord, Reply};
+use usb_pipe::{HostWord, Reply, Said};
 use usb_words::{push_bytes, push_hex, push_number, push_text, push_wide, push_word};
 
 /// The most bytes that an answer's line has, with its newline: `passed` with 4,096 bytes.
@@ -53,13 +54,15 @@ fn push_data_line<const N: usize>(out: &mut ArrayVec<u8, N>, toggle: Toggle, pac
     out.push(b'\n');
 }
 
-/// Appends the line of a reply, with its newline.
-pub fn push_reply_line<const N: usize>(out: &mut ArrayVec<u8, N>, reply: &Reply)
-    requires { array_vec_len out.old + MOST_ANSWER ≤ N }
-    ensures items { out.new.items ≡ out.old.items ++ (answer_text (TheReply reply.now) ++ newline ∷ []) }
+/// Appends the line of a reply, with its newline: what is said, and the bytes that it has.
+pub fn push_said_line<const N: usize>(out: &mut ArrayVec<u8, N>, said: Said, bytes: &[u8])
+    requires room { array_vec_len out.old + MOST_ANSWER ≤ N }
+    requires fits { Fits said bytes.now }
+    requires few { length bytes.now ≤ 4096 }
+    ensures items { out.new.items ≡ out.old.items ++ (answer_text (TheReply (reply_with said bytes.now)) ++ newline ∷ []) }
     ensures length { array_vec_len out.new ≤ array_vec_len out.old + MOST_ANSWER }
 {
-    push_reply(out, reply);
+    push_said(out, said, bytes);
     out.push(b'\n');
 }
 
@@ -115,38 +118,90 @@ fn push_reply<const N: usize>(out: &mut ArrayVec<u8, N>, reply: &Reply)
     ensures items { out.new.items ≡ out.old.items ++ spaced (reply_words reply.now) }
     ensures length { array_vec_len out.new ≤ array_vec_len out.old + 8199 }
 {
-    match reply {
-        Reply::Done => push_text(out, b"done"),
-        Reply::Took(n) => named_number(out, b"took", *n),
-        Reply::Got(bytes) => named_bytes(out, b"got", bytes.as_slice()),
-        Reply::Held(n) => named_number(out, b"held", *n),
-        Reply::Events(bytes) => named_bytes(out, b"events", bytes.as_slice()),
-        Reply::Report(bytes) => named_bytes(out, b"report", bytes.as_slice()),
-        Reply::SetReport(kind, bytes) => push_set(out, *kind, bytes.as_slice()),
-        Reply::Idle(rate, protocol) => two_numbers(out, b"idle", *rate, *protocol),
-        Reply::LineIs(rate, stop, parity, bits, dtr, rts) => {
-            push_line(out, *rate, *stop, *parity, *bits);
-            push_number(out, u16::from(*dtr));
-            push_number(out, u16::from(*rts));
+    let (said, bytes) = said_of(reply);
+    push_said(out, said, bytes);
+}
+
+/// The words of what is said, with these bytes.
+fn push_said<const N: usize>(out: &mut ArrayVec<u8, N>, said: Said, bytes: &[u8])
+    requires room { array_vec_len out.old + 8199 ≤ N }
+    requires fits { Fits said bytes.now }
+    requires few { length bytes.now ≤ 4096 }
+    ensures items { out.new.items ≡ out.old.items ++ spaced (reply_words (reply_with said bytes.now)) }
+    ensures length { array_vec_len out.new ≤ array_vec_len out.old + 8199 }
+{
+    match said {
+        Said::Done => push_text(out, b"done"),
+        Said::Took(n) => named_number(out, b"took", n),
+        Said::Got => named_bytes(out, b"got", bytes),
+        Said::Held(n) => named_number(out, b"held", n),
+        Said::Events => named_bytes(out, b"events", bytes),
+        Said::Report => named_bytes(out, b"report", bytes),
+        Said::SetReport(kind) => push_set(out, kind, bytes),
+        Said::Idle(rate, protocol) => two_numbers(out, b"idle", rate, protocol),
+        Said::LineIs(rate, stop, parity, bits, dtr, rts) => {
+            push_line(out, rate, stop, parity, bits);
+            push_number(out, u16::from(dtr));
+            push_number(out, u16::from(rts));
         }
-        Reply::Serial(bits) => named_number(out, b"serial", *bits),
-        Reply::Started => push_text(out, b"started"),
-        Reply::Running => push_text(out, b"running"),
-        Reply::Passed(bytes) => named_bytes(out, b"passed", bytes.as_slice()),
-        Reply::ControlPassed => push_text(out, b"passed"),
-        Reply::Failed(residue) => push_failed(out, *residue),
-        Reply::Phase => push_text(out, b"phase"),
-        Reply::Stalled => push_text(out, b"stalled"),
-        Reply::NoReply => push_text(out, b"noreply"),
-        Reply::Halted => push_text(out, b"halted"),
-        Reply::Dead => push_text(out, b"dead"),
-        Reply::Busy => push_text(out, b"busy"),
-        Reply::BadLength => push_text(out, b"badlength"),
-        Reply::NoPipe => push_text(out, b"nopipe"),
-        Reply::Nothing => push_text(out, b"none"),
-        Reply::Closed => push_text(out, b"closed"),
-        Reply::Core(addr, configured) => two_numbers(out, b"state", *addr, *configured),
-        Reply::Host(word) => push_host(out, *word),
+        Said::Serial(bits) => named_number(out, b"serial", bits),
+        Said::Started => push_text(out, b"started"),
+        Said::Running => push_text(out, b"running"),
+        Said::Passed => named_bytes(out, b"passed", bytes),
+        Said::ControlPassed => push_text(out, b"passed"),
+        Said::Failed(residue) => push_failed(out, residue),
+        Said::Phase => push_text(out, b"phase"),
+        Said::Stalled => push_text(out, b"stalled"),
+        Said::NoReply => push_text(out, b"noreply"),
+        Said::Halted => push_text(out, b"halted"),
+        Said::Dead => push_text(out, b"dead"),
+        Said::Busy => push_text(out, b"busy"),
+        Said::BadLength => push_text(out, b"badlength"),
+        Said::NoPipe => push_text(out, b"nopipe"),
+        Said::Nothing => push_text(out, b"none"),
+        Said::Closed => push_text(out, b"closed"),
+        Said::Core(addr, configured) => two_numbers(out, b"state", addr, configured),
+        Said::Host(word) => push_host(out, word),
+    }
+}
+
+/// What a reply says, and its bytes where they stand.
+fn said_of(reply: &Reply) -> (Said, &[u8])
+    ensures reply { reply_with result.0 result.1.now ≡ reply.now }
+    ensures fits { Fits result.0 result.1.now }
+    ensures few { length result.1.now ≤ 4096 }
+{
+    match reply {
+        Reply::Done => (Said::Done, &[]),
+        Reply::Took(n) => (Said::Took(*n), &[]),
+        Reply::Got(bytes) => (Said::Got, bytes.as_slice()),
+        Reply::Held(n) => (Said::Held(*n), &[]),
+        Reply::Events(bytes) => (Said::Events, bytes.as_slice()),
+        Reply::Report(bytes) => (Said::Report, bytes.as_slice()),
+        Reply::SetReport(kind, bytes) => (Said::SetReport(*kind), bytes.as_slice()),
+        Reply::Idle(rate, protocol) => (Said::Idle(*rate, *protocol), &[]),
+        Reply::LineIs(rate, stop, parity, bits, dtr, rts) => (
+            Said::LineIs(*rate, *stop, *parity, *bits, *dtr, *rts),
+            &[],
+        ),
+        Reply::Serial(bits) => (Said::Serial(*bits), &[]),
+        Reply::Started => (Said::Started, &[]),
+        Reply::Running => (Said::Running, &[]),
+        Reply::Passed(bytes) => (Said::Passed, bytes.as_slice()),
+        Reply::ControlPassed => (Said::ControlPassed, &[]),
+        Reply::Failed(residue) => (Said::Failed(*residue), &[]),
+        Reply::Phase => (Said::Phase, &[]),
+        Reply::Stalled => (Said::Stalled, &[]),
+        Reply::NoReply => (Said::NoReply, &[]),
+        Reply::Halted => (Said::Halted, &[]),
+        Reply::Dead => (Said::Dead, &[]),
+        Reply::Busy => (Said::Busy, &[]),
+        Reply::BadLength => (Said::BadLength, &[]),
+        Reply::NoPipe => (Said::NoPipe, &[]),
+        Reply::Nothing => (Said::Nothing, &[]),
+        Reply::Closed => (Said::Closed, &[]),
+        Reply::Core(addr, session) => (Said::Core(*addr, *session), &[]),
+        Reply::Host(word) => (Said::Host(*word), &[]),
     }
 }
 

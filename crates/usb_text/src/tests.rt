@@ -2,11 +2,11 @@ ghost use Rattle.std.specs.Prelude.{◌≡◌, ◌≤◌, length};
 
 use crate::{
     Answer, DevCall, DevLine, Line, Mode, Place, ScheduleLine, answer_text, line_text,
-    push_bus_line, push_reply_line, read_bus, read_head, read_line, read_schedule,
+    push_bus_line, push_said_line, read_bus, read_head, read_line, read_schedule,
 };
 use arrayvec::ArrayVec;
 use usb_packet::{BusAnswer, BusEvent, Packet, Toggle};
-use usb_pipe::{CdcDeviceCall, HostWord, Reply};
+use usb_pipe::{CdcDeviceCall, HostWord, Reply, Said};
 
 /// The rule by which a line is refused, or 0.
 fn rule_in(line: &[u8], mode: Mode, place: Place) -> u8 {
@@ -403,7 +403,7 @@ fn replies(rt: HostRuntime) {
 fn longest_answer(rt: HostRuntime) {
     let reply = Reply::Passed(bytes(&[0; 4096]));
     let mut out: ArrayVec<u8, 8200> = ArrayVec::new();
-    push_reply_line(&mut out, &reply);
+    push_said_line(&mut out, Said::Passed, &[0; 4096]);
     assert_eq!(rt; out.len(), 8200);
     assert_eq!(rt; out.as_slice()[8199], b'\n');
     assert_eq!(rt; answer_text(&Answer::Reply(reply)).len(), 8199);

@@ -6,3 +6,4 @@ pub mod Status
 pub mod Read
 pub mod Written
 pub mod Top
+pub mod Replies

@@ -7,7 +7,8 @@ ghost use Rattle.device_owners.specs.Device.{start};
 ghost use Rattle.device_owners.specs.Isolation.{Isolates};
 ghost use Rattle.usb_text.specs.Line.{schedule_text_of, IsScheduled};
 ghost use Rattle.usb_text.specs.Scheduled.{Device, scheduled, run_line};
-ghost use Rattle.device_line.specs.declared.line.DevLine.TheVariants.{Bus as BusLine};
+ghost use Rattle.device_line.specs.declared.line.DevLine.TheVariants.{Bus as BusLine, Call};
+ghost use Rattle.usb_pipe.specs.Said.{reply_with};
 ghost use Rattle.usb_packet.specs.declared.bus.BusAnswer.TheVariants.{Done};
 ghost use Rattle.device_line.specs.declared.line.Answer.TheVariants.{Bus, Reply as TheReply};
 ghost use Rattle.device_text.specs.Job.{most_bytes};
@@ -20,12 +21,12 @@ ghost use Rattle.usbrun.specs.Session.{Looks, FindsNext, Keeps, TakesLine, Goes,
 use crate::session::{Session, Stop};
 use crate::texts::Texts;
 use crate::turn::{BusTurn, ReplyTurn};
+use arrayvec::ArrayVec;
 use dwc2_regs::Access;
 use job_reader::{Lines, Next, line_break};
 use usb_edge::{Sink, Source};
 use usb_packet::{BusAnswer, BusEvent};
-use usb_pipe::Reply;
-use usb_text::{DevLine, RunLine, ScheduleLine, read_bus, read_run, read_schedule};
+use usb_text::{DevCall, DevLine, RunLine, ScheduleLine, read_bus, read_run, read_schedule};
 
 /// The most bytes that a job has, up to and with its last line.
 const MOST_BYTES: u64 = 1_073_741_824;
@@ -52,17 +53,19 @@ pub fn run_schedule<S: Source, K: Sink, T: Sink>(
     ensures out_faults { K.faults out.new ≡ out_faults result (K.faults out.old) }
     ensures trace_faults { T.faults trace.new ≡ trace_faults result (T.faults trace.old) }
 {
+    let mut bytes = ArrayVec::new();
     'lines: loop {
-        if let Some(stop) = go_on(session, src, out, trace) {
+        if let Some(stop) = go_on(session, src, &mut bytes, out, trace) {
             return stop;
         }
     }
 }
 
-/// Reads the next line of the schedule and answers it, or tells why the run ends.
+/// Reads the next line of the schedule and answers it, or tells why the run ends. `bytes` has room for those of a reply.
 fn go_on<S: Source, K: Sink, T: Sink>(
     session: &mut Session,
     src: &mut S,
+    bytes: &mut ArrayVec<u8, 4096>,
     out: &mut K,
     trace: &mut T,
 ) -> Option<Stop>
@@ -77,7 +80,7 @@ fn go_on<S: Source, K: Sink, T: Sink>(
     ensures trace_faults { T.faults trace.new ≡ trace_faults_at result (T.faults trace.old) }
 {
     match look(session, src, out) {
-        Some(Next::Line(n)) => take_line(session, n, out, trace),
+        Some(Next::Line(n)) => take_line(session, n, bytes, out, trace),
         Some(Next::Nothing) => Some(Stop::Short),
         Some(Next::LineTooLong) => Some(Stop::Refused(1)),
         Some(Next::ReadFault) => Some(Stop::ReadFault),
@@ -111,6 +114,7 @@ fn look<S: Source, K: Sink>(session: &mut Session, src: &mut S, out: &mut K) -> 
 fn take_line<K: Sink, T: Sink>(
     session: &mut Session,
     n: usize,
+    bytes: &mut ArrayVec<u8, 4096>,
     out: &mut K,
     trace: &mut T,
 ) -> Option<Stop>
@@ -128,9 +132,30 @@ fn take_line<K: Sink, T: Sink>(
     if let Some(event) = read_bus(session.lines.line(n)) {
         return take_bus(session, n, &event, out, trace);
     }
+    take_other(session, n, bytes, out, trace)
+}
+
+#[tactic(auto, using(crate::proofs::Handed::nothing_handed, crate::proofs::Handed::then_added))]
+/// The same with a call, the last line, or a line that is refused. It has room for the bytes of a call.
+#[inline(never)]
+fn take_other<K: Sink, T: Sink>(
+    session: &mut Session,
+    n: usize,
+    bytes: &mut ArrayVec<u8, 4096>,
+    out: &mut K,
+    trace: &mut T,
+) -> Option<Stop>
+    requires count { session.old.lines.count ≤ most_bytes }
+    requires lines { session.old.lines.lines ≤ session.old.lines.count }
+    requires line { IsLineAt n session.old.lines }
+    ensures takes { TakesLine result n (both (K.taken out.old) (T.taken trace.old)) (both (K.taken out.new) (T.taken trace.new)) session.old session.new }
+    ensures read_fault { result ≡ Some Stop.ReadFault → ⊥ }
+    ensures out_faults { K.faults out.new ≡ out_faults_at result (K.faults out.old) }
+    ensures trace_faults { T.faults trace.new ≡ trace_faults_at result (T.faults trace.old) }
+{
     let read = read_schedule(session.lines.line(n));
     match &read {
-        Ok(line) => take_read(session, n, line, out, trace),
+        Ok(line) => take_read(session, n, line, bytes, out, trace),
         Err(fault) => Some(Stop::Refused(fault.rule)),
     }
 }
@@ -141,6 +166,7 @@ fn take_read<K: Sink, T: Sink>(
     session: &mut Session,
     n: usize,
     line: &ScheduleLine,
+    bytes: &mut ArrayVec<u8, 4096>,
     out: &mut K,
     trace: &mut T,
 ) -> Option<Stop>
@@ -163,7 +189,7 @@ fn take_read<K: Sink, T: Sink>(
             if !make_room(session, out) {
                 return Some(Stop::OutFault);
             }
-            let told = answer(session, line, trace);
+            let told = answer(session, line, bytes, trace);
             session.lines.take(n);
             if told { None } else { Some(Stop::TraceFault) }
         }
@@ -283,7 +309,12 @@ fn make_room<K: Sink>(session: &mut Session, out: &mut K) -> bool
 
 /// Lets the device answer a line, tells the trace its accesses and the answer, and puts what the output shows of them
 /// behind what waits: whether the trace took them.
-fn answer<T: Sink>(session: &mut Session, line: &DevLine, trace: &mut T) -> bool
+fn answer<T: Sink>(
+    session: &mut Session,
+    line: &DevLine,
+    bytes: &mut ArrayVec<u8, 4096>,
+    trace: &mut T,
+) -> bool
     requires { HasRoom session.old.texts.out }
     ensures told { Hears result (T.taken trace.old) (T.taken trace.new) (trace_part session.new.run.log (answer_of session.old.run line.now)) }
     ensures texts { session.new.texts ≡ added_where result session.old.texts session.new.run.log (answer_of session.old.run line.now) }
@@ -295,11 +326,31 @@ fn answer<T: Sink>(session: &mut Session, line: &DevLine, trace: &mut T) -> bool
         DevLine::Bus(event) => answer_bus(session, event, trace),
         DevLine::Irq => answer_run(session, RunLine::Irq, trace),
         DevLine::Task => answer_run(session, RunLine::Task, trace),
-        DevLine::Call(call) => {
-            let reply = session.run.reply(call);
-            tell_reply(session.run.trace(), &reply, &mut session.texts, trace)
-        }
+        DevLine::Call(call) => answer_call(session, call, bytes, trace),
     }
+}
+
+/// Lets the device answer a call, and tells of it as of the answer to any line. The bytes of the reply stand in `bytes`.
+fn answer_call<T: Sink>(
+    session: &mut Session,
+    call: &DevCall,
+    bytes: &mut ArrayVec<u8, 4096>,
+    trace: &mut T,
+) -> bool
+    requires { HasRoom session.old.texts.out }
+    ensures told { Hears result (T.taken trace.old) (T.taken trace.new) (trace_part session.new.run.log (answer_of session.old.run (Call call.now))) }
+    ensures texts { session.new.texts ≡ added_where result session.old.texts session.new.run.log (answer_of session.old.run (Call call.now)) }
+    ensures run { Steps session.old.run session.new.run (Call call.now) (answer_of session.old.run (Call call.now)) }
+    ensures lines { session.new.lines ≡ session.old.lines }
+    ensures exact { T.faults trace.new ≡ faults_at_tell result (T.faults trace.old) }
+{
+    let said = session.run.answer(call, bytes);
+    let turn = ReplyTurn {
+        accesses: session.run.trace(),
+        said,
+        bytes: bytes.as_slice(),
+    };
+    tell_reply(&turn, &mut session.texts, trace)
 }
 
 /// Tells the trace the accesses of a line and what the device answers on the bus, and then the output: whether the trace
@@ -345,16 +396,15 @@ fn tell_done<T: Sink>(accesses: &[Access], texts: &mut Texts, trace: &mut T) -> 
 }
 
 /// The same with a reply.
-fn tell_reply<T: Sink>(accesses: &[Access], reply: &Reply, texts: &mut Texts, trace: &mut T) -> bool
-    requires room { HasRoom texts.old.out }
-    requires few { length accesses.now ≤ 400 }
-    ensures told { Hears result (T.taken trace.old) (T.taken trace.new) (trace_part accesses.now (TheReply reply.now)) }
-    ensures texts { texts.new ≡ added_where result texts.old accesses.now (TheReply reply.now) }
+fn tell_reply<T: Sink>(turn: &ReplyTurn, texts: &mut Texts, trace: &mut T) -> bool
+    requires { HasRoom texts.old.out }
+    ensures told { Hears result (T.taken trace.old) (T.taken trace.new) (trace_part turn.now.accesses.now (TheReply (reply_with turn.now.said turn.now.bytes.now))) }
+    ensures texts { texts.new ≡ added_where result texts.old turn.now.accesses.now (TheReply (reply_with turn.now.said turn.now.bytes.now)) }
     ensures exact { T.faults trace.new ≡ faults_at_tell result (T.faults trace.old) }
 {
-    if !trace.tell(&ReplyTurn { accesses, reply }) {
+    if !trace.tell(turn) {
         return false;
     }
-    texts.push_reply(accesses, reply);
+    texts.push_reply(turn);
     true
 }

@@ -2,14 +2,15 @@ ghost use Rattle.std.specs.Prelude.{◌≡◌, ◌+◌, ◌≤◌, ◌↔◌, []
 ghost use Rattle.usb_edge.specs.Outcome.{faults_at_tell};
 ghost use Rattle.usb_packet.specs.declared.bus.BusAnswer.TheVariants.{Done};
 ghost use Rattle.device_line.specs.declared.line.Answer.TheVariants.{Bus, Reply as TheReply};
+ghost use Rattle.usb_pipe.specs.Said.{reply_with};
 ghost use Rattle.usbrun.specs.Stream.{HasRoom};
 ghost use Rattle.usbrun.specs.Texts.{shown, added, HandsOut};
 
+use crate::turn::ReplyTurn;
 use crate::writer::Writer;
 use dwc2_regs::Access;
 use usb_edge::Sink;
 use usb_packet::BusAnswer;
-use usb_pipe::Reply;
 
 /// The output's text that waits to be written.
 #[derive(Drop)]
@@ -60,13 +61,12 @@ impl Texts {
     }
 
     /// The same with a reply.
-    pub fn push_reply(&mut self, accesses: &[Access], reply: &Reply)
-        requires room { HasRoom self.old.out }
-        requires few { length accesses.now ≤ 400 }
-        ensures { self.new ≡ added self.old accesses.now (TheReply reply.now) }
+    pub fn push_reply(&mut self, turn: &ReplyTurn)
+        requires { HasRoom self.old.out }
+        ensures { self.new ≡ added self.old turn.now.accesses.now (TheReply (reply_with turn.now.said turn.now.bytes.now)) }
     {
-        self.push_accesses(accesses);
-        self.out.push_reply(reply);
+        self.push_accesses(turn.accesses);
+        self.out.push_said(turn.said, turn.bytes);
     }
 
     /// Adds register lines where the output shows them.

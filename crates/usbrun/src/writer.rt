@@ -3,6 +3,7 @@ ghost use Rattle.arrayvec.specs.ArrayVec.{array_vec_len};
 ghost use Rattle.usb_edge.specs.Outcome.{faults_at_tell};
 ghost use Rattle.usb_packet.specs.declared.bus.BusAnswer.TheVariants.{Done};
 ghost use Rattle.device_line.specs.declared.line.Answer.TheVariants.{Bus, Reply as TheReply};
+ghost use Rattle.usb_pipe.specs.Said.{Fits, reply_with};
 ghost use Rattle.device_text.specs.Answers.{answer_line};
 ghost use Rattle.usbrun.specs.Stream.{Hands, HasRoom};
 ghost use Rattle.usbrun.specs.Texts.{access_lines};
@@ -12,10 +13,9 @@ use dwc2_regs::Access;
 use std::marker::Model;
 use usb_edge::Sink;
 use usb_packet::BusAnswer;
-use usb_pipe::Reply;
+use usb_pipe::Said;
 use usb_text::{
-    MOST_ACCESS, MOST_ANSWER, Side, push_access_line, push_bus_line, push_done_line,
-    push_reply_line,
+    MOST_ACCESS, MOST_ANSWER, Side, push_access_line, push_bus_line, push_done_line, push_said_line,
 };
 
 /// How many bytes wait at most.
@@ -85,13 +85,15 @@ impl Writer {
         push_done_line(&mut self.waiting);
     }
 
-    /// The same of a reply.
-    pub fn push_reply(&mut self, reply: &Reply)
-        requires { length self.old + 8200 ≤ 32768 }
-        ensures text { self.new ≡ self.old ++ answer_line (TheReply reply.now) }
+    /// The same of a reply: what is said, and its bytes.
+    pub fn push_said(&mut self, said: Said, bytes: &[u8])
+        requires room { length self.old + 8200 ≤ 32768 }
+        requires fits { Fits said bytes.now }
+        requires few { length bytes.now ≤ 4096 }
+        ensures text { self.new ≡ self.old ++ answer_line (TheReply (reply_with said bytes.now)) }
         ensures length { length self.new ≤ length self.old + 8200 }
     {
-        push_reply_line(&mut self.waiting, reply);
+        push_said_line(&mut self.waiting, said, bytes);
     }
 
     /// Hands on all that waits: whether the sink took it.
