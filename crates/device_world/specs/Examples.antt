@@ -3,6 +3,7 @@
 use Rattle.std.specs.Prelude.{◌≡◌, ℕ, List, [], ◌∷◌, ◌++◌, true, map, replicate, None}
 use Rattle.usb_packet.specs.declared.bus.Toggle.{Toggle}
 use Rattle.usb_packet.specs.declared.bus.Toggle.TheVariants.{D0, D1}
+use Rattle.usb_packet.specs.declared.bus.Owner.TheVariants as owner
 use Rattle.usb_packet.specs.declared.bus.BusEvent.TheVariants as event
 use Rattle.usb_packet.specs.declared.bus.BusAnswer.TheVariants as answers
 use Rattle.usb_descriptor.specs.Set.{Set}
@@ -20,7 +21,7 @@ use Rattle.device_line.specs.declared.call.DevCall.TheVariants as call
 use Rattle.device_line.specs.declared.line.Answer.{Answer}
 use Rattle.device_line.specs.declared.line.Answer.TheVariants as answer
 use Rattle.device_owners.specs.Device.{Device, Machinery, start}
-use Rattle.device_owners.specs.Lines.{whole, line_answer, after_line}
+use Rattle.device_owners.specs.Lines.{whole, line_answer, after_line, part}
 use Rattle.device_world.specs.World.{world_of}
 
 abbrev pub device : List ℕ
@@ -116,6 +117,25 @@ set_coding interface length = 0x21 ∷ 0x20 ∷ 0 ∷ 0 ∷ interface ∷ 0 ∷ 
 abbrev pub set_lines : ℕ → ℕ → List ℕ
 set_lines interface lines = 0x21 ∷ 0x22 ∷ lines ∷ 0 ∷ interface ∷ 0 ∷ 0 ∷ 0 ∷ []
 
+-- GET_LINE_CODING of an interface (table 13)
+abbrev pub get_coding : ℕ → List ℕ
+get_coding interface = 0xa1 ∷ 0x21 ∷ 0 ∷ 0 ∷ interface ∷ 0 ∷ 7 ∷ 0 ∷ []
+
+-- SET_FEATURE(ENDPOINT_HALT) and CLEAR_FEATURE(ENDPOINT_HALT) of the endpoint at an address (USB 2.0, 9.4.9 and 9.4.1)
+abbrev pub halt : ℕ → List ℕ
+halt address = 2 ∷ 3 ∷ 0 ∷ 0 ∷ address ∷ 0 ∷ 0 ∷ 0 ∷ []
+
+abbrev pub clear : ℕ → List ℕ
+clear address = 2 ∷ 1 ∷ 0 ∷ 0 ∷ address ∷ 0 ∷ 0 ∷ 0 ∷ []
+
+-- a request whose bytes for the host are one packet, with its status stage
+abbrev pub read_back : List ℕ → List ℕ → Turns
+read_back request bytes = asked request ++ (in_token 0, sent D1 bytes) ∷ (out_packet 0 D1 [], ack) ∷ worked
+
+-- 115,200 bits in a second, one stop bit, no parity, 8 data bits
+abbrev pub fast : List ℕ
+fast = 0 ∷ 0xc2 ∷ 1 ∷ 0 ∷ 0 ∷ 0 ∷ 8 ∷ []
+
 -- 9,600 bits in a second, one stop bit, no parity, 8 data bits
 abbrev pub slow : List ℕ
 slow = 0x80 ∷ 0x25 ∷ 0 ∷ 0 ∷ 0 ∷ 0 ∷ 8 ∷ []
@@ -151,6 +171,21 @@ pub record SerialRequests : Type 0 where
       (session ++ passed (set_lines 1 1) ++ tells_line 115200 1 0 ++ refused (set_lines 0 2) ++ tells_line 115200 1 0
       ++ (Bus event.Reset, done) ∷ (Irq, done) ∷ calls_serial Line reply.Closed)
 
+-- The same requests, and where they end.
+pub record SerialRequestsEnd : Type 0 where
+  -- GET_LINE_CODING gives what holds
+  pub read : IsAnswered serial
+      (session ++ read_back (get_coding 1) fast ++ given (set_coding 1 7) slow ++ read_back (get_coding 1) slow)
+  -- the control lines are off again in the next session
+  pub lines_end : IsAnswered serial
+      (session ++ passed (set_lines 1 3) ++ tells_line 115200 1 1 ++ passed (set_configuration 0) ++ passed (set_configuration 1) ++ tells_line 115200 0 0)
+  -- the low byte of wIndex names the interface (USB 2.0, 9.3.4)
+  pub low_byte : IsAnswered serial
+      (session ++ passed (0x21 ∷ 0x22 ∷ 1 ∷ 0 ∷ 1 ∷ 5 ∷ 0 ∷ 0 ∷ []) ++ tells_line 115200 1 0)
+  -- a SETUP ends the transfer before it (USB 2.0, 8.5.3): its bytes aren't taken any more
+  pub overtaken : IsAnswered serial
+      (session ++ asked (set_coding 1 7) ++ passed (set_lines 1 3) ++ (out_packet 0 D1 slow, nak) ∷ tells_line 115200 1 1 ++ read_back (get_coding 1) fast)
+
 abbrev pub full_packet : List ℕ
 full_packet = replicate 64 7
 
@@ -170,6 +205,40 @@ pub record SerialTransfers : Type 0 where
   -- SERIAL_STATE of interface 1 (6.5.4) goes out on the notification endpoint
   pub notifies : IsAnswered serial
       (session ++ calls_serial (Notify 3) reply.Done ++ (Irq, done) ∷ (in_token 3, sent D0 (0xa1 ∷ 0x20 ∷ 0 ∷ 0 ∷ 1 ∷ 0 ∷ 2 ∷ 0 ∷ 3 ∷ 0 ∷ [])) ∷ [])
+
+abbrev pub bytes_of : List ℕ → CdcDeviceCall
+bytes_of bytes = Write (record { items = bytes })
+
+pub record SerialPipes : Type 0 where
+  -- a hundred bytes are two packets; what is written behind them waits for the next flush
+  pub queues : IsAnswered serial
+      (session ++ calls_serial (bytes_of (replicate 100 7)) (reply.Took 100) ++ calls_serial Flush reply.Done ++ calls_serial (bytes_of (8 ∷ [])) (reply.Took 1)
+      ++ (Irq, done) ∷ (in_token 2, sent D0 full_packet) ∷ (in_token 2, sent D1 (replicate 36 7)) ∷ served ++ (in_token 2, nak)
+      ∷ calls_serial Flush reply.Done ++ (Irq, done) ∷ (in_token 2, sent D0 (8 ∷ [])) ∷ [])
+  -- a halted endpoint sends nothing and starts nothing; its bytes wait (USB 2.0, 8.4.5 and 9.4.5)
+  pub halts : IsAnswered serial
+      (session ++ calls_serial (bytes_of (97 ∷ [])) (reply.Took 1) ++ passed (halt 0x82) ++ (in_token 2, stall) ∷ calls_serial Flush reply.Halted
+      ++ passed (clear 0x82) ++ calls_serial Flush reply.Done ++ (Irq, done) ∷ (in_token 2, sent D0 (97 ∷ [])) ∷ [])
+  -- the end of a halt drops the transfer that runs, and keeps what came; DATA0 is next (USB 2.0, 9.4.5)
+  pub cleared : IsAnswered serial
+      (session ++ calls_serial (bytes_of (97 ∷ 98 ∷ [])) (reply.Took 2) ++ calls_serial Flush reply.Done ++ (out_packet 1 D0 (7 ∷ []), ack) ∷ worked
+      ++ passed (clear 0x82) ++ passed (clear 1) ++ (in_token 2, nak) ∷ (out_packet 1 D0 (8 ∷ []), ack) ∷ worked ++ calls_serial (Read 9) (reply.Got (record { items = 7 ∷ 8 ∷ [] }))
+      ++ calls_serial (bytes_of (99 ∷ [])) (reply.Took 1) ++ calls_serial Flush reply.Done ++ (Irq, done) ∷ (in_token 2, sent D0 (99 ∷ [])) ∷ [])
+
+-- Whose lines are whose: the endpoints 01, 82 and 83 are the serial port's, and what the configuration doesn't have is the core's.
+
+abbrev pub mixed : List DevLine
+mixed =
+    Bus event.Reset ∷ Irq ∷ Bus (event.Setup 0 (set_configuration 1) true) ∷ in_token 0 ∷ Task ∷ out_packet 1 D0 [] ∷ out_packet 2 D0 [] ∷ in_token 1 ∷ in_token 2 ∷ in_token 3
+    ∷ Call call.State ∷ Call (call.Cdc Line) ∷ Call (call.Hid Take) ∷ []
+
+abbrev pub common : List DevLine
+common = Bus event.Reset ∷ Irq ∷ Bus (event.Setup 0 (set_configuration 1) true) ∷ in_token 0 ∷ Task ∷ []
+
+pub record SerialParts : Type 0 where
+  pub serials : part serial owner.Cdc mixed ≡ common ++ out_packet 1 D0 [] ∷ in_token 2 ∷ in_token 3 ∷ Call (call.Cdc Line) ∷ []
+  pub cores : part serial owner.Core mixed ≡ common ++ out_packet 2 D0 [] ∷ in_token 1 ∷ Call call.State ∷ []
+  pub others : part serial owner.Hid mixed ≡ common ++ Call (call.Hid Take) ∷ []
 
 -- a class that isn't there answers no call and no request
 pub record OthersAreClosed : Type 0 where
