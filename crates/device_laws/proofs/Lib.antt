@@ -1,5 +1,6 @@
 pub mod Stages
 pub mod Whole
+pub mod Others
 pub mod Plain
 pub mod Facts
 pub mod Asks

@@ -6,3 +6,4 @@ pub mod Seen
 pub mod Reading
 pub mod Traces
 pub mod LastLine
+pub mod Others

@@ -12,6 +12,7 @@ ghost use Rattle.device_laws.specs.Requests.{all_differ, Each, IsDone, UnnamedAr
 ghost use Rattle.device_laws.specs.Examples.{PlainIsRead, Reads, Setups, Addresses, Sessions};
 ghost use Rattle.device_laws.specs.Seen.{AddressIsSeen, SetupIsHeard, OthersAreIgnored, BusyAnswersNak, AddressIsTold};
 ghost use Rattle.device_laws.specs.World.{IsOfSet};
+ghost use Rattle.device_laws.specs.Others.{PartsAreWhole, EqualPartsAnswerAlike, OthersDontReach, ForeignKeepsNothing};
 ghost use Rattle.usb_descriptor.specs.declared.limits.EpLimits.{EpLimits};
 ghost use Rattle.usb_descriptor.specs.Set.{IsAccepted};
 ghost use Rattle.device_laws.specs.Reading.{ReadsAreDelivered, ReadsEnd};
@@ -93,6 +94,17 @@ pub fn accepted_sets_have_laws<S>(set: &DescSet)
 /// schedule's answers, whatever its classes do.
 pub fn answers_are_of_the_device<S>()
     ensures { (world : World S) → IsOfSet world → (before : List DevLine) (line : DevLine) → answer_to world before line ≡ whole_answer world before line }
+{}
+
+/// Owners are apart over every schedule, whatever their classes do. An owner's part leaves out packets on other endpoints than 0 that
+/// aren't its own, and calls of others, and no line that is its own. Behind two schedules with equal parts for it the device answers its
+/// lines alike; so with a line of another taken out, each answer to one of its own is as it was. Of a control transfer of another class its
+/// machine keeps that one stands, and nothing of its request and its bytes.
+pub fn owners_are_apart<S>()
+    ensures parts { (world : World S) → PartsAreWhole world }
+    ensures equal { (world : World S) → IsOfSet world → EqualPartsAnswerAlike world }
+    ensures others { (world : World S) → IsOfSet world → OthersDontReach world }
+    ensures foreign { (world : World S) → ForeignKeepsNothing world }
 {}
 
 /// The accesses to registers in a trace are a run of the controller from its opened state on, over every trace: each turn's
