@@ -2,6 +2,7 @@
 #![tactic(auto)]
 
 mod ask;
+pub mod laws;
 mod run;
 
 pub use run::DeviceRun;
