@@ -1,12 +1,13 @@
 // What an application asks.
-ghost use Rattle.std.specs.Prelude.{◌≡◌, ◌≢◌, ◌+◌, ◌≤◌, ◌&&◌, [], length, min};
+ghost use Rattle.std.specs.Prelude.{◌≡◌, ◌≢◌, ◌+◌, ◌≤◌, [], length, min};
 ghost use Rattle.usb_pipe.specs.Said.{Fits, SaysAlone, reply_with};
-ghost use Rattle.usb_pipe.specs.Own.{IsPipe, phase_at, given, read as read_, call_accesses, work_accesses};
-ghost use Rattle.cdc_device_machine.specs.Port.{read_size, is_shut, is_closed, start_reply, line_reply, notification, with_flush, with_notice, call_reply, pipes_after_call};
+ghost use Rattle.usb_pipe.specs.Own.{phase_at, given, read as read_, call_accesses, work_accesses};
+ghost use Rattle.class_pipes.specs.Pipes.{start_reply, with_started};
+ghost use Rattle.cdc_device_machine.specs.Port.{read_size, line_reply, notification, with_notice, call_reply, pipes_after_call};
 
-use crate::device::{CdcDevice, DATA_IN, DATA_OUT, NOTICES};
-use crate::work::is_at_rest;
+use crate::device::{CdcDevice, NOTICES};
 use arrayvec::ArrayVec;
+use class_pipes::{DATA_IN, DATA_OUT, is_at_rest, is_shut_down, said_at, start_queued};
 use usb_pipe::{CdcDeviceCall, DevPipes, Phase, Reply, Said, reply_of};
 
 /// The most bytes that a call reads.
@@ -77,23 +78,6 @@ impl CdcDevice {
     }
 }
 
-/// Whether no session stands: then the data pipes are closed.
-fn is_shut_down<P: DevPipes>(pipes: &P) -> bool
-    requires { P.sound pipes.now }
-    ensures { result ≡ is_shut (P.pipes pipes.now) }
-{
-    is_pipe_closed(pipes, DATA_IN) || is_pipe_closed(pipes, DATA_OUT)
-}
-
-/// Whether no session has a pipe open.
-fn is_pipe_closed<P: DevPipes>(pipes: &P, pipe: u8) -> bool
-    requires sound { P.sound pipes.now }
-    requires pipe { IsPipe pipe }
-    ensures { result ≡ is_closed (phase_at (P.pipes pipes.now) pipe) }
-{
-    matches!(pipes.phase(pipe), Phase::Closed)
-}
-
 /// Takes the first bytes that came, at most so many and at most 1,024.
 fn read<P: DevPipes>(pipes: &mut P, most: u16, bytes: &mut ArrayVec<u8, 4096>) -> Said
     requires sound { P.sound pipes.old }
@@ -133,15 +117,13 @@ fn flush<P: DevPipes>(pipes: &mut P) -> Said
     requires sound { P.sound pipes.old }
     requires spare { call_accesses ≤ P.spare pipes.old }
     ensures reply { SaysAlone result (start_reply (phase_at (P.pipes pipes.old) 0)) }
-    ensures pipes { P.pipes pipes.new ≡ with_flush (P.pipes pipes.old) }
+    ensures pipes { P.pipes pipes.new ≡ with_started (P.pipes pipes.old) 0 }
     ensures beside { P.beside pipes.old pipes.new }
     ensures sound { P.sound pipes.new }
     ensures spends { P.spare pipes.old ≤ P.spare pipes.new + work_accesses }
 {
     let phase = pipes.phase(DATA_IN);
-    if is_at_rest(pipes, DATA_IN) && pipes.held(DATA_IN) != 0 {
-        pipes.start(DATA_IN);
-    }
+    start_queued(pipes, DATA_IN);
     said_at(phase)
 }
 
@@ -182,16 +164,4 @@ fn serial_state(interface: u8, bits: u16) -> [u8; 10]
 {
     let [low, high] = bits.to_le_bytes();
     [0xa1, 0x20, 0, 0, interface, 0, 2, 0, low, high]
-}
-
-/// What a call that starts a transfer is answered, by what its pipe does.
-fn said_at(phase: Phase) -> Said
-    ensures { SaysAlone result (start_reply phase) }
-{
-    match phase {
-        Phase::Rest => Said::Done,
-        Phase::Halted => Said::Halted,
-        Phase::Running | Phase::Posted => Said::Busy,
-        Phase::Closed | Phase::Dead | Phase::Clearing => Said::Closed,
-    }
 }

@@ -4,6 +4,7 @@ ghost use Rattle.cdc_device_machine.specs.Coding.{coding_bytes};
 
 use crate::coding::{self, LineCoding};
 use arrayvec::ArrayVec;
+use class_pipes::DATA_IN;
 use std::marker::Model;
 use usb_packet::Setup;
 use usb_pipe::Decision;
@@ -11,14 +12,8 @@ use usb_pipe::Decision;
 /// The size of the packets of the data pipes.
 const DATA_PACKET: u16 = 64;
 
-/// The pipe that receives data.
-pub(crate) const DATA_OUT: u8 = 1;
-
 /// The notification pipe.
 pub(crate) const NOTICES: u8 = 2;
-
-/// The pipe that sends data.
-pub(crate) const DATA_IN: u8 = 0;
 
 /// The device side of a serial port (CDC PSTN 1.2): its line coding, its control lines, and whether the end of its last transfer is
 /// still to be told.

@@ -1,13 +1,11 @@
 // What it does on its pipes without being called.
 ghost use Rattle.std.specs.Prelude.{◌≡◌, ◌+◌, ◌≤◌};
-ghost use Rattle.usb_pipe.specs.Own.{IsPipe, phase_at, call_accesses, work_accesses};
-ghost use Rattle.cdc_device_machine.specs.Port.{is_rest, with_armed, owes_empty, with_end, pipes_after_work, after_work};
+ghost use Rattle.usb_pipe.specs.Own.{call_accesses, work_accesses};
+ghost use Rattle.cdc_device_machine.specs.Port.{owes_empty, with_end, pipes_after_work, after_work};
 
-use crate::device::{CdcDevice, DATA_IN, DATA_OUT};
-use usb_pipe::{DevPipes, Phase};
-
-/// The fewest free bytes with which the pipe that receives is armed: a packet's (USB 2.0, 5.8.3).
-const PACKET_ROOM: u16 = 64;
+use crate::device::CdcDevice;
+use class_pipes::{DATA_IN, arm_with_room, is_at_rest};
+use usb_pipe::DevPipes;
 
 impl CdcDevice {
     /// One turn of its work. The pipe that receives takes another packet where it has room for one. An empty packet ends a
@@ -22,7 +20,7 @@ impl CdcDevice {
         ensures sound { P.sound pipes.new }
         ensures spends { P.spare pipes.old ≤ P.spare pipes.new + work_accesses }
     {
-        arm(pipes);
+        arm_with_room(pipes);
         self.end(pipes);
         self.is_open_ended = false;
     }
@@ -48,27 +46,4 @@ impl CdcDevice {
     {
         self.is_open_ended && pipes.held(DATA_IN) == 0 && is_at_rest(pipes, DATA_IN)
     }
-}
-
-/// The pipe that receives takes another packet where it has room for one.
-fn arm<P: DevPipes>(pipes: &mut P)
-    requires sound { P.sound pipes.old }
-    requires spare { call_accesses ≤ P.spare pipes.old }
-    ensures pipes { P.pipes pipes.new ≡ with_armed (P.pipes pipes.old) }
-    ensures beside { P.beside pipes.old pipes.new }
-    ensures sound { P.sound pipes.new }
-    ensures spends { P.spare pipes.old ≤ P.spare pipes.new + call_accesses }
-{
-    if is_at_rest(pipes, DATA_OUT) && pipes.room(DATA_OUT) >= PACKET_ROOM {
-        pipes.arm(DATA_OUT);
-    }
-}
-
-/// Whether nothing is under way on a pipe.
-pub(crate) fn is_at_rest<P: DevPipes>(pipes: &P, pipe: u8) -> bool
-    requires sound { P.sound pipes.now }
-    requires pipe { IsPipe pipe }
-    ensures { result ≡ is_rest (phase_at (P.pipes pipes.now) pipe) }
-{
-    matches!(pipes.phase(pipe), Phase::Rest)
 }

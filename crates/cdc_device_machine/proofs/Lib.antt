@@ -1,3 +1,2 @@
 mod Codings
-mod Phases
 mod Transfers

@@ -4,7 +4,7 @@ use Rattle.std.proofs.lemmas.Bool.Decides.{nat_tests}
 use Rattle.usb_pipe.specs.Own.{phase_at}
 use Rattle.cdc_device_machine.specs.Port.{is_whole}
 use Rattle.cdc_device_machine.specs.Laws.{IsWholePackets, EmptyPacketEndsWholePackets}
-use Rattle.cdc_device_machine.proofs.Phases.{rest_of-test}
+use Rattle.class_pipes.proofs.Phases.{rest_of-test}
 
 whole_of-test : (n : ℕ) → is_whole n ≡ true → IsWholePackets n
 whole_of-test n h = (n / 64, grind (arith, nat_tests), grind (arith, nat_tests))

@@ -9,7 +9,7 @@ use Rattle.usb_pipe.specs.declared.call.CdcDeviceCall.TheVariants.{Write, Read, 
 use Rattle.usb_pipe.specs.declared.reply.Reply.TheVariants as reply
 use Rattle.usb_pipe.specs.Own.{Own, phase_at, held_at, capacity_at, started, armed}
 use Rattle.cdc_device_machine.specs.Coding.{Coding, coding_bytes, coding_of}
-use Rattle.cdc_device_machine.specs.Port.{Port, decided, after_setup, accepts, after_data, after_ended, owes_empty, pipes_after_work, with_armed, notification, call_reply, pipes_after_call}
+use Rattle.cdc_device_machine.specs.Port.{Port, decided, after_setup, accepts, after_data, after_ended, owes_empty, pipes_after_work, notification, call_reply, pipes_after_call}
 
 -- Line codings.
 
@@ -95,12 +95,12 @@ EmptyPacketEndsWholePackets =
 abbrev pub OnlyDataEnds : Type 0
 OnlyDataEnds = (port : Port) (pipe n : ℕ) → pipe ≢ 0 → after_ended port pipe n ≡ port
 
--- the pipe that receives takes a packet exactly where it rests and 64 bytes are free
+-- its work arms the pipe that receives exactly where that rests and 64 bytes are free
 abbrev pub ArmsWithRoom : Type 0
 ArmsWithRoom =
-    (own : Own)
-    → (phase_at own 1 ≡ Rest → held_at own 1 + 64 ≤ capacity_at own 1 → with_armed own ≡ armed own)
-    × ((phase_at own 1 ≢ Rest) ⊎ (capacity_at own 1 < held_at own 1 + 64) → with_armed own ≡ own)
+    (port : Port) (own : Own)
+    → (phase_at own 1 ≡ Rest → held_at own 1 + 64 ≤ capacity_at own 1 → (pipes_after_work port own).receives ≡ (armed own).receives)
+    × ((phase_at own 1 ≢ Rest) ⊎ (capacity_at own 1 < held_at own 1 + 64) → (pipes_after_work port own).receives ≡ own.receives)
 
 -- its work leaves all bytes that are held or queued, and the notification pipe
 abbrev pub WorkKeepsBytes : Type 0

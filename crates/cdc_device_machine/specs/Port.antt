@@ -1,15 +1,15 @@
 -- A serial port as a device has it: what it holds, its requests, its work and its calls (CDC PSTN 1.2).
-use Rattle.std.specs.Prelude.{ℕ, ◌/◌, ◌%◌, List, [], ◌∷◌, Bool, true, false, not, ◌==◌, ◌&&◌, ◌||◌, nat_le, min, if◌then◌else◌}
+use Rattle.std.specs.Prelude.{ℕ, ◌/◌, ◌%◌, List, [], ◌∷◌, Bool, false, not, ◌==◌, ◌&&◌, min, if◌then◌else◌}
 use Rattle.usb_packet.specs.declared.setup.Setup.{Setup}
 use Rattle.usb_pipe.specs.declared.decision.Decision.{Decision}
 use Rattle.usb_pipe.specs.declared.decision.Decision.TheVariants as decision
-use Rattle.usb_pipe.specs.declared.phase.Phase.{Phase}
-use Rattle.usb_pipe.specs.declared.phase.Phase.TheVariants.{Closed, Rest, Running, Posted, Halted, Dead, Clearing}
 use Rattle.usb_pipe.specs.declared.call.CdcDeviceCall.{CdcDeviceCall}
 use Rattle.usb_pipe.specs.declared.call.CdcDeviceCall.TheVariants.{Write, Read, Flush, Avail, Line, Notify}
 use Rattle.usb_pipe.specs.declared.reply.Reply.{Reply}
 use Rattle.usb_pipe.specs.declared.reply.Reply.TheVariants as reply
-use Rattle.usb_pipe.specs.Own.{Own, phase_at, held_at, room_at, taken_of, written, given, read, started, armed, packet_room}
+use Rattle.usb_pipe.specs.Own.{Own, phase_at, held_at, taken_of, written, given, read, started}
+use Rattle.class_pipes.specs.Pipes.{data_in, data_out, is_rest, is_shut, with_armed, with_started, start_reply}
+use Rattle.class_pipes.specs.Requests.{is_request, with_length}
 use Rattle.cdc_device_machine.specs.Coding.{Coding, first_coding, coding_size, coding_bytes, coding_of, are_coding}
 
 pub record Port : Type 0 where
@@ -29,13 +29,7 @@ pub record Serial : Type 0 where
 abbrev pub first : Port
 first = record { coding = first_coding; dtr = 0; rts = 0; is_open_ended = false }
 
--- its pipes: data for the host, data from the host, and notifications
-abbrev pub data_in : ℕ
-data_in = 0
-
-abbrev pub data_out : ℕ
-data_out = 1
-
+-- its pipe for notifications, beside its data pipes
 abbrev pub notices : ℕ
 notices = 2
 
@@ -43,10 +37,6 @@ notices = 2
 
 abbrev pub is_mine : ℕ → Setup → Bool
 is_mine interface setup = (setup.index % 256) == interface
-
--- bmRequestType and bRequest
-abbrev pub is_request : ℕ → ℕ → Setup → Bool
-is_request kind request setup = (setup.request_type == kind) && (setup.request == request)
 
 abbrev pub is_set_coding : Setup → Bool
 is_set_coding setup = is_request 0x21 0x20 setup
@@ -56,10 +46,6 @@ is_get_coding setup = is_request 0xa1 0x21 setup
 
 abbrev pub is_set_lines : Setup → Bool
 is_set_lines setup = is_request 0x21 0x22 setup
-
--- a request that says how many bytes it has: that, or a refusal
-abbrev pub with_length : ℕ → Setup → Decision → Decision
-with_length n setup d = if setup.length == n then d else decision.Stall
 
 -- those that aren't listed are refused
 abbrev pub listed : Port → Setup → Decision
@@ -103,31 +89,6 @@ after_ended port pipe bytes = if pipe == data_in then record port { is_open_ende
 
 -- Its work.
 
-abbrev pub is_rest : Phase → Bool
-is_rest Rest = true
-is_rest Closed = false
-is_rest Running = false
-is_rest Posted = false
-is_rest Halted = false
-is_rest Dead = false
-is_rest Clearing = false
-
-abbrev pub is_closed : Phase → Bool
-is_closed Closed = true
-is_closed Rest = false
-is_closed Running = false
-is_closed Posted = false
-is_closed Halted = false
-is_closed Dead = false
-is_closed Clearing = false
-
--- it takes another packet where it has room for one
-abbrev pub may_arm : Own → Bool
-may_arm own = is_rest (phase_at own data_out) && nat_le packet_room (room_at own data_out)
-
-abbrev pub with_armed : Own → Own
-with_armed own = if may_arm own then armed own else own
-
 -- an empty packet ends a transfer whose end the host can't tell, where nothing more is queued (USB 2.0, 5.8.3)
 abbrev pub owes_empty : Port → Own → Bool
 owes_empty port own = port.is_open_ended && ((held_at own data_in == 0) && is_rest (phase_at own data_in))
@@ -148,16 +109,6 @@ abbrev pub notification : ℕ → ℕ → List ℕ
 notification interface bits =
     0xa1 ∷ 0x20 ∷ 0 ∷ 0 ∷ interface ∷ 0 ∷ 2 ∷ 0 ∷ bits % 256 ∷ bits / 256 ∷ []
 
--- a call that starts a transfer, by what the pipe does
-abbrev pub start_reply : Phase → Reply
-start_reply Rest = reply.Done
-start_reply Halted = reply.Halted
-start_reply Running = reply.Busy
-start_reply Posted = reply.Busy
-start_reply Closed = reply.Closed
-start_reply Dead = reply.Closed
-start_reply Clearing = reply.Closed
-
 abbrev pub line_reply : Port → Reply
 line_reply port = reply.LineIs port.coding.rate port.coding.stop port.coding.parity port.coding.bits port.dtr port.rts
 
@@ -176,16 +127,8 @@ open_reply port own Avail = reply.Held (held_at own data_out)
 open_reply port own Line = line_reply port
 open_reply port own (Notify bits) = start_reply (phase_at own notices)
 
--- no call does anything while no session stands: then its data pipes are closed
-abbrev pub is_shut : Own → Bool
-is_shut own = is_closed (phase_at own data_in) || is_closed (phase_at own data_out)
-
 abbrev pub call_reply : Port → Own → CdcDeviceCall → Reply
 call_reply port own call = if is_shut own then reply.Closed else open_reply port own call
-
--- `cdc flush` starts what is queued, where anything is
-abbrev pub with_flush : Own → Own
-with_flush own = if is_rest (phase_at own data_in) && not (held_at own data_in == 0) then started own data_in else own
 
 abbrev pub with_notice : ℕ → ℕ → Own → Own
 with_notice interface bits own =
@@ -194,7 +137,7 @@ with_notice interface bits own =
 abbrev pub open_after_call : ℕ → Own → CdcDeviceCall → Own
 open_after_call interface own (Write bytes) = written own data_in bytes.items
 open_after_call interface own (Read most) = read own (read_size most)
-open_after_call interface own Flush = with_flush own
+open_after_call interface own Flush = with_started own data_in
 open_after_call interface own Avail = own
 open_after_call interface own Line = own
 open_after_call interface own (Notify bits) = with_notice interface bits own

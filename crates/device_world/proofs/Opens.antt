@@ -8,6 +8,7 @@ use Rattle.usb_pipe.specs.declared.call.CdcDeviceCall.TheVariants.{Write, Read, 
 use Rattle.usb_pipe.specs.Own.{Own, written, started, armed}
 use Rattle.device_line.specs.declared.call.DevCall.{DevCall}
 use Rattle.device_line.specs.declared.call.DevCall.TheVariants as call
+use Rattle.class_pipes.specs.Pipes.{is_shut, may_arm, with_armed, may_start}
 use Rattle.cdc_device_machine.specs.Port as cdc
 use Rattle.device_owners.specs.Steps.{StayOpen, OpenNone}
 use Rattle.device_owners.proofs.Idle.{calls_stay_open}
@@ -26,9 +27,9 @@ either false own x y hx hy = hy
 
 port_work : (port : cdc.Port) (own : Own) → StayOpen own (cdc.pipes_after_work port own)
 port_work port own =
-    let ready = cdc.with_armed own in
+    let ready = with_armed own in
     calls_stay_open.both own ready (cdc.with_end port ready)
-    (either (cdc.may_arm own) own (armed own) own (calls_stay_open.arms own) (same own))
+    (either (may_arm own) own (armed own) own (calls_stay_open.arms own) (same own))
     (either (cdc.owes_empty port ready) ready (started ready 0) ready (calls_stay_open.starts ready 0) (same ready))
 
 port_notice : (interface bits : ℕ) (own : Own) → StayOpen own (cdc.with_notice interface bits own)
@@ -39,13 +40,13 @@ port_notice interface bits own =
 port_open : (interface : ℕ) (own : Own) (c : CdcDeviceCall) → StayOpen own (cdc.open_after_call interface own c)
 port_open interface own (Write bytes) = calls_stay_open.writes own 0 bytes.items
 port_open interface own (Read most) = calls_stay_open.reads own (cdc.read_size most)
-port_open interface own Flush = either _ own (started own 0) own (calls_stay_open.starts own 0) (same own)
+port_open interface own Flush = either (may_start own 0) own (started own 0) own (calls_stay_open.starts own 0) (same own)
 port_open interface own Avail = same own
 port_open interface own Line = same own
 port_open interface own (Notify bits) = port_notice interface bits own
 
 port_call : (interface : ℕ) (own : Own) (c : CdcDeviceCall) → StayOpen own (cdc.pipes_after_call interface own c)
-port_call interface own c = either (cdc.is_shut own) own own (cdc.open_after_call interface own c) (same own) (port_open interface own c)
+port_call interface own c = either (is_shut own) own own (cdc.open_after_call interface own c) (same own) (port_open interface own c)
 
 serial_work : (s : State) (own : Own) → StayOpen own (pipes_after_work s own)
 serial_work (Serial serial) own = port_work serial.port own

@@ -2,7 +2,7 @@ use Rattle.std.proofs.Common.{take, sym, refl, length-take, arith}
 use Rattle.std.proofs.lemmas.List.{take-append-drop}
 use Rattle.usb_pipe.specs.Own.{phase_at}
 use Rattle.cdc_device_machine.specs.Port.{read_size}
-use Rattle.cdc_device_machine.proofs.Phases.{test-closed}
+use Rattle.class_pipes.proofs.Phases.{test-closed}
 use Rattle.cdc_device_machine.proofs.laws.calls_have_their_pipes.Goals as goal
 
 pub returns-clause-reads : goal.returns-clause-reads

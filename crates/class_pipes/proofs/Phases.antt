@@ -2,7 +2,7 @@
 use Rattle.std.proofs.Common.{◌≡◌, ◌≢◌, true, false, refl, arith}
 use Rattle.usb_pipe.specs.declared.phase.Phase.{Phase}
 use Rattle.usb_pipe.specs.declared.phase.Phase.TheVariants.{Closed, Rest, Running, Posted, Halted, Dead, Clearing}
-use Rattle.cdc_device_machine.specs.Port.{is_rest, is_closed}
+use Rattle.class_pipes.specs.Pipes.{is_rest, is_closed}
 
 pub rest_of-test : (p : Phase) → is_rest p ≡ true → p ≡ Rest
 rest_of-test Rest h = refl

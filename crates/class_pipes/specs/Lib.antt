@@ -1,0 +1,4 @@
+pub mod Laws
+pub mod Pipes
+pub mod Requests
+pub mod Worked
