@@ -1,3 +1,4 @@
 pub mod ByteKinds
+pub mod Sizes
 pub mod Stream
 pub mod Table

@@ -9,7 +9,7 @@ use Rattle.midi_events.specs.declared.packing.Kind.{Kind}
 use Rattle.midi_events.specs.declared.packing.Kind.TheVariants.{Data, Channel, SysExStart, Common, Undefined, TuneRequest, SysExEnd, RealTime}
 use Rattle.midi_events.specs.Bytes.{kind, is_data, is_real_time, is_not_real_time, data_count, runs_on}
 use Rattle.midi_events.specs.Events.{packet, unpacked}
-use Rattle.midi_events.specs.Packing.{State, Idle, InSysEx, InMessage, event_at, kept_after, event, after, packed}
+use Rattle.midi_events.specs.Packing.{State, Idle, InSysEx, InMessage, event_at, kept_after, event, after, packed, after_all}
 use Rattle.midi_events.specs.Spoken.{data_run, is_closed, with_status, common_message, sysex, spoken, CarriesWhatIsSaid}
 use Rattle.midi_events.proofs.ByteKinds.{real_time_kind, data_kind, end_kind, channel_kind, is_real_time-kind, is_data-kind, is_end-kind, runs_on-kind, count_cases, is_f7-kind, carried-channel, carried-common}
 
@@ -316,12 +316,8 @@ pub same_real_time : (stream : List ℕ) {s : State} → Reached s → SameRealT
 same_real_time [] r = refl
 same_real_time (byte ∷ rest) r = same_one r byte rest (kind byte) refl (λ t reached. same_real_time rest reached)
 
--- the packer's state behind a stream
-abbrev after_all : State → List ℕ → State
-after_all s [] = s
-after_all s (byte ∷ rest) = after_all (after s byte) rest
-
-packed-append : (s : State) (front back : List ℕ) → packed s (front ++ back) ≡ packed s front ++ packed (after_all s front) back
+-- the events of a stream in two parts
+pub packed-append : (s : State) (front back : List ℕ) → packed s (front ++ back) ≡ packed s front ++ packed (after_all s front) back
 packed-append s [] back = refl
 packed-append s (byte ∷ rest) back =
     let first = option_to_list (event s byte) in

@@ -58,3 +58,8 @@ after state byte = kept_after (kind byte) state byte
 abbrev pub packed : State → List ℕ → List (List ℕ)
 packed state [] = []
 packed state (byte ∷ rest) = option_to_list (event state byte) ++ packed (after state byte) rest
+
+-- what the packer keeps behind a stream
+abbrev pub after_all : State → List ℕ → State
+after_all state [] = state
+after_all state (byte ∷ rest) = after_all (after state byte) rest

@@ -1,0 +1,4 @@
+mod Calls
+pub mod Fours
+mod Sessions
+pub mod Taking
