@@ -1,0 +1,5 @@
+mod Alone
+mod Calls
+mod Last
+mod Requests
+mod Sessions

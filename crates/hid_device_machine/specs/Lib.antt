@@ -1,0 +1,5 @@
+pub mod Device
+pub mod Examples
+pub mod Laws
+pub mod Reports
+pub mod Session
