@@ -88,16 +88,112 @@ def serial_is_good(interfaces):
     return len(ends) == 1 and is_in(ends[0]) and kind(ends[0]) == INTERRUPT and has_pair(group[1])
 
 
+def is_hid_descriptor(d):
+    """A HID descriptor of a report descriptor (HID 1.11, 6.2.1)."""
+    return d[1] == 0x21 and d[0] >= 9 and d[6] == 0x22 and 1 <= d[7] + 256 * d[8] <= 512
+
+
+def hid_descriptor(interfaces):
+    """The HID descriptor of the first HID interface, whole, or None."""
+    group = first(interfaces, 3)
+    return next((d for _, d in group.others if is_hid_descriptor(d)), None) if group else None
+
+
 def reports_are_good(interfaces):
     group = first(interfaces, 3)
     if group is None:
         return True
-    described = any(
-        d[1] == 0x21 and d[0] >= 9 and d[6] == 0x22 and 1 <= d[7] + 256 * d[8] <= 512 for _, d in group.others
-    )
+    described = any(is_hid_descriptor(d) for _, d in group.others)
     ends = [e for _, e in group.endpoints]
     ins = [e for e in ends if is_in(e)]
     return described and all(kind(e) == INTERRUPT for e in ends) and len(ins) == 1 and len(ends) - len(ins) <= 1
+
+
+MOST_IDS, MOST_PUSHED, MOST_BITS = 8, 4, 512
+REPORT_SIZE, REPORT_ID, REPORT_COUNT, PUSH, POP = 7, 8, 9, 10, 11
+INPUT, OUTPUT, COLLECTION, FEATURE, END_COLLECTION = 8, 9, 10, 11, 12
+
+
+class Items:
+    """The items of a report descriptor so far (HID 1.11, 6.2.2): the bits of each id by main item."""
+
+    def __init__(self):
+        self.size = self.id = self.count = self.open = 0
+        self.pushed, self.bits = [], {}
+
+    def take(self, kind, tag, value):
+        """Whether an item may stand here."""
+        if kind == 0:
+            return self.main(tag)
+        return kind != 1 or self.set(tag, value)
+
+    def main(self, tag):
+        if tag == COLLECTION:
+            self.open += 1
+        elif tag == END_COLLECTION:
+            self.open -= 1
+        elif tag in (INPUT, OUTPUT, FEATURE):
+            return self.field(tag)
+        return self.open >= 0
+
+    def field(self, tag):
+        if self.id == 0 and any(self.bits):
+            return False
+        lengths = self.bits.setdefault(self.id, {INPUT: 0, OUTPUT: 0, FEATURE: 0})
+        lengths[tag] += self.size * self.count
+        return len(self.bits) <= MOST_IDS and lengths[tag] + (8 if self.id else 0) <= MOST_BITS
+
+    def set(self, tag, value):
+        if tag == REPORT_SIZE:
+            self.size = value
+        elif tag == REPORT_COUNT:
+            self.count = value
+        elif tag == REPORT_ID:
+            self.id = value
+            return 1 <= value <= 255 and 0 not in self.bits
+        elif tag == PUSH:
+            self.pushed.append((self.size, self.id, self.count))
+            return len(self.pushed) <= MOST_PUSHED
+        elif tag == POP:
+            if not self.pushed:
+                return False
+            self.size, self.id, self.count = self.pushed.pop()
+        return True
+
+
+def report_lengths(report):
+    """The bytes of the input and the output report of each id, without the id's own, or None where they can't be told."""
+    items, at = Items(), 0
+    while at < len(report):
+        prefix = report[at]
+        size = (0, 1, 2, 4)[prefix & 3]
+        data = report[at + 1 : at + 1 + size]
+        if prefix == 0xFE or len(data) < size:
+            return None
+        if not items.take(prefix >> 2 & 3, prefix >> 4, int.from_bytes(data, "little")):
+            return None
+        at += 1 + size
+    if items.open:
+        return None
+    return {n: ((bits[INPUT] + 7) // 8, (bits[OUTPUT] + 7) // 8) for n, bits in items.bits.items()}
+
+
+def fits(endpoint, number, length):
+    """Whether a report of that id fits an endpoint's packets, where there are both."""
+    return endpoint is None or length == 0 or length + (number != 0) <= endpoint[4] + 256 * endpoint[5]
+
+
+def report_is_good(interfaces, report):
+    """A report descriptor is given exactly where there is a HID interface, and is the one that this declares."""
+    group = first(interfaces, 3)
+    if group is None or report is None:
+        return group is None and report is None
+    declared, lengths = hid_descriptor(interfaces), report_lengths(report)
+    if declared is None or lengths is None or declared[7] + 256 * declared[8] != len(report):
+        return False
+    ends = [e for _, e in group.endpoints]
+    in_, out = (next((e for e in ends if is_in(e) == way), None) for way in (True, False))
+    return all(fits(in_, n, lengths[n][0]) and fits(out, n, lengths[n][1]) for n in lengths)
 
 
 def endpoint_faults(left):
@@ -162,7 +258,7 @@ def fault_of(device, config, report):
         return 15, 0
     if not reports_are_good(interfaces):
         return 16, 0
-    if first(interfaces, 3) is not None or report is not None:
+    if not report_is_good(interfaces, report):
         return 17, 0
     pairs = (first(interfaces, 8, 6, 0x50), first(interfaces, 1, 3))
     if any(i is not None and not has_pair(i) for i in pairs):

@@ -1,6 +1,6 @@
 """A device as a host and its own software see it, by docs/MODEL.md, with no code of the crates."""
 
-from descriptor_model import grouped, is_in, kind, left_of, row_of, serial_group, INTERRUPT
+from descriptor_model import first, grouped, hid_descriptor, is_in, kind, left_of, row_of, serial_group, INTERRUPT
 from pipe_model import InPipe, OutPipe
 from serial_model import SerialPort
 
@@ -12,9 +12,11 @@ DRIVEN = frozenset({"cdc"})
 
 
 class Device:
-    def __init__(self, device, config, strings):
-        self.device, self.config, self.strings = device, config, strings
+    def __init__(self, device, config, strings, report=None):
+        self.device, self.config, self.strings, self.report = device, config, strings, report
         _, self.interfaces = grouped(left_of(row_of(config)[0]))
+        group = first(self.interfaces, 3) if "hid" in DRIVEN else None
+        self.hid = group.data[2] if group else None
         self.sizes = {e[2]: e[4] for i in self.interfaces for _, e in i.endpoints}
         self.classes, self.owners = {}, {}
         if "cdc" in DRIVEN:
@@ -199,6 +201,8 @@ class Device:
             return "status"
         if asked == (0x80, 6):
             return self.descriptor(value)
+        if asked == (0x81, 6) and interface and index == self.hid:
+            return self.hid_descriptor(value)
         if asked == (0x80, 8):
             return bytes([self.config[5] if self.session else 0])
         if asked == (0x00, 9) and value in (0, self.config[5]):
@@ -213,6 +217,12 @@ class Device:
                 self.halts(e[2], False)
             return "status"
         return None
+
+    def hid_descriptor(self, value):
+        """What an interface of HID gives: its own descriptor, whole, or that of its reports (HID 1.11, 7.1.1)."""
+        if value == 0x2100:
+            return hid_descriptor(self.interfaces)
+        return self.report if value == 0x2200 else None
 
     def descriptor(self, value):
         kind, index = value >> 8, value & 255

@@ -133,7 +133,7 @@ def expected(job):
     fault = fault_of(head.device, head.config, head.report)
     if fault is not None:
         return 3, b"", "usbrun: set rule {} at {}\n".format(*fault).encode()
-    return run(Device(head.device, head.config, head.strings), lines, at)
+    return run(Device(head.device, head.config, head.strings, head.report), lines, at)
 
 
 def run(device, lines, start):

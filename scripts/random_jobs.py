@@ -49,11 +49,35 @@ def serial_port(number_):
     return control + bytes([9, 4, number_ + 1, 0, 2, 10, 0, 0, 0, 7, 5, 3, 2, 64, 0, 0, 7, 5, 0x82, 2, 64, 0, 0])
 
 
+def hid(rng, number_, free, sound):
+    """A HID interface with packets of 8 bytes (HID 1.11, 6.2.1), and a report descriptor of it; or neither."""
+    ins, outs = ([a for a in free if a & 128 == way] for way in (128, 0))
+    if not ins or rng.random() < 0.7:
+        return b"", None
+    ends = [rng.choice(ins)] + rng.choice([[], outs[:1]])
+    for address in ends:
+        free.remove(address)
+    number = rng.choice([b"", b"\x85\x01"])
+    fields = [(item, rng.choice([0, 1, 7, 8 - len(number) // 2])) for item in rng.sample([0x81, 0x91, 0xB1], 2)]
+    if not sound and rng.random() < 0.3:
+        fields.append((rng.choice([0x81, 0x91]), rng.choice([8, 9, 63, 64])))
+    report = b"\x75\x08" + number + b"".join(bytes([0x95, count, item, 2]) for item, count in fields)
+    declared = len(report) if sound or rng.random() < 0.8 else rng.choice([0, len(report) - 1, len(report) + 1])
+    named = bytes([0x22, declared, 0]) + rng.choice([b"", b"\x23\x04\x00"])
+    described = bytes([6 + len(named), 0x21, 0x11, 1, 0, len(named) // 3]) + named
+    pipes = b"".join(bytes([7, 5, address, 3, 8, 0, 10]) for address in ends)
+    if not sound and rng.random() < 0.2:
+        report = rng.choice([None, report + b"\xc0", report[:-1], b"\xa1\x01" + report])
+    return bytes([9, 4, number_, 0, len(ends), 3, 0, 0, 0]) + described + pipes, report
+
+
 def random_config(rng, sound):
-    """A configuration of up to three interfaces or four. A sound one is of an accepted set."""
+    """A configuration of up to five interfaces, and its report descriptor, where there is one. A sound one is of an accepted set."""
     body, count, free = b"", 0, [1, 2, 3, 0x81, 0x82, 0x83]
     if rng.random() < 0.4:
         body, count, free = serial_port(0), 2, [1, 2, 0x81]
+    interface, report = hid(rng, count, free, sound)
+    body, count = body + interface, count + (interface != b"")
     for _ in range(rng.choice([0, 1, 1, 2, 3])):
         body += random_interface(rng, count, free, sound)
         count += 1
@@ -69,7 +93,7 @@ def random_config(rng, sound):
     config += bytes([rng.choice([0x80, 0xC0]), 50]) + body
     if not sound and rng.random() < 0.25:
         config[rng.randrange(len(config))] = rng.choice([0, 1, 2, 3, 4, 5, 7, 9, 11, 64, 0x81, 255])
-    return bytes(config)
+    return bytes(config), report
 
 
 def random_setup(rng, config):
@@ -254,12 +278,14 @@ class Lines:
 
 def random_job(rng, sound):
     device = b"\x12\x01" + rng.randbytes(5) + b"\x40" + rng.randbytes(9) + bytes([rng.choice([1, 1, 1, 2])])
-    config = random_config(rng, sound)
+    config, report = random_config(rng, sound)
     head = [f"device {device.hex()}", f"config {config.hex()}"]
     for index in sorted(rng.sample(range(1, 6), rng.choice([0, 0, 1, 2]))):
         head.append(f"string {index} {rng.randbytes(rng.choice([2, 12, 60])).hex()}")
-    if not sound and rng.random() < 0.03:
-        head.append("report 0600")
+    if report is None and not sound and rng.random() < 0.03:
+        report = b"\x06\x00"
+    if report is not None:
+        head.append(f"report {report.hex()}")
     source, whole = Lines(rng, config), rng.choice([0.03, 0.15, 0.5])
     source.put("reset", "irq")
     length = rng.choice([3, 20, 60, 200])

@@ -5,11 +5,11 @@
 mod group;
 pub mod laws;
 mod parts;
+mod report;
 
 pub use group::{group_owner, is_built, lead_number, owner_of_number};
-pub use parts::{
-    endpoints, following_place, has_wrong_hid, has_wrong_pair, has_wrong_serial, is_hid,
-};
+pub use parts::{endpoints, following_place, has_wrong_hid, has_wrong_pair, has_wrong_serial};
+pub use report::{has_wrong_report, hid_descriptor};
 pub use usb_packet::Owner;
 
 #[cfg(test)]

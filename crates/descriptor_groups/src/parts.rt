@@ -28,7 +28,7 @@ pub fn is_hid(d: &Descriptor) -> bool
 
 /// Whether this is a HID descriptor, type 21, of a report descriptor, type 22, with 1 to 512 bytes
 /// (HID 1.11, 6.2.1).
-fn is_hid_descriptor(d: &Descriptor) -> bool
+pub fn is_hid_descriptor(d: &Descriptor) -> bool
     ensures { result ≡ is_hid_descriptor d.now }
 {
     let bytes = d.word(7);
@@ -183,7 +183,7 @@ fn is_hid_group(after: &[Descriptor]) -> bool
 }
 
 /// Whether there is a HID interface.
-fn any_hid(row: &[Descriptor]) -> bool
+pub fn any_hid(row: &[Descriptor]) -> bool
     ensures { result ≡ list_any is_hid row.now }
 {
     row.iter().any(|d| is_hid(d))

@@ -2,7 +2,7 @@
 -- the next one, belongs to it.
 use Rattle.std.specs.Prelude.{◌≡◌, ℕ, List, [], ◌∷◌, ◌++◌, reverse, Bool, true, ◌==◌, if◌then◌else◌, Option, Some, None, find, map}
 use Rattle.descriptor_row.specs.declared.descriptor.Descriptor.{Descriptor}
-use Rattle.descriptor_row.specs.Row.{row_of, row_end}
+use Rattle.descriptor_row.specs.Row.{row_of, row_end, whole_at}
 use Rattle.descriptor_row.specs.Kinds.{is_interface, setting, left_of}
 
 -- the last interface of some descriptors, if they have one
@@ -39,4 +39,7 @@ places ds = map (λ (d : Descriptor). d.at) ds
 pub record WorkedRow : Type 0 where
   pub row : places (row_of two_settings) ≡ 9 ∷ 18 ∷ 25 ∷ 34 ∷ 37 ∷ 44 ∷ []
   pub end : row_end two_settings ≡ 53
+  pub whole : whole_at two_settings 34 ≡ Some (3 ∷ 36 ∷ 5 ∷ [])
+  pub cut_short : whole_at (9 ∷ 33 ∷ 17 ∷ []) 0 ≡ None
+  pub behind : whole_at two_settings 53 ≡ None
   pub left : places (left_of (row_of two_settings)) ≡ 9 ∷ 18 ∷ 44 ∷ []

@@ -1,5 +1,5 @@
 -- The descriptors of a configuration as a row: USB 2.0, 9.4.3 and 9.5. All lengths and places are in bytes.
-use Rattle.std.specs.Prelude.{ℕ, zero, suc, ◌+◌, ◌*◌, List, [], ◌∷◌, Bool, ◌&&◌, nat_lt, nat_le, length, slice_index, if◌then◌else◌, sum_by}
+use Rattle.std.specs.Prelude.{ℕ, zero, suc, ◌+◌, ◌*◌, List, [], ◌∷◌, Bool, ◌&&◌, nat_lt, nat_le, length, slice_index, take, drop, Option, Some, None, if◌then◌else◌, sum_by}
 use Rattle.descriptor_row.specs.declared.descriptor.Descriptor.{Descriptor}
 
 -- byte k of a descriptor, for k from 0 to 8; what it hasn't is 0
@@ -31,6 +31,10 @@ descriptor_at config at = record {
 -- whether a descriptor begins at a place: a byte 0 of at least 2 that ends within the configuration
 abbrev pub begins_at : List ℕ → ℕ → Bool
 begins_at config at = nat_le 2 (slice_index config at) && nat_le (at + slice_index config at) (length config)
+
+-- the bytes of the descriptor that begins at a place, where one does: as many as its byte 0 says
+abbrev pub whole_at : List ℕ → ℕ → Option (List ℕ)
+whole_at config at = if begins_at config at then Some (take (slice_index config at) (drop at config)) else None
 
 -- at most so many descriptors from a place on, each where the one before ends, up to where none begins
 abbrev pub row_from : ℕ → ℕ → List ℕ → List Descriptor

@@ -1,5 +1,6 @@
-ghost use Rattle.std.specs.Prelude.{◌≡◌, ◌+◌, ◌<◌, ◌≤◌, ◌^◌, length, slice_index, IsTrue};
-ghost use Rattle.descriptor_row.specs.Row.{byte_at, descriptor_at, begins_at};
+ghost use Rattle.std.specs.Prelude.{◌≡◌, ◌+◌, ◌<◌, ◌≤◌, ◌^◌, length, slice_index, IsTrue, IfSome};
+ghost use Rattle.std.specs.Option.{option_map};
+ghost use Rattle.descriptor_row.specs.Row.{byte_at, descriptor_at, begins_at, whole_at};
 
 /// A descriptor of a configuration (USB 2.0, 9.5), by its first bytes. These hold every field that a
 /// set is judged by.
@@ -21,6 +22,20 @@ pub fn begins_at(config: &[u8], at: usize) -> bool
     }
     let size = usize::from(config[at]);
     size >= 2 && size <= config.len() - at
+}
+
+/// The whole descriptor that begins at this place, where one does: as many bytes as its first one says (USB 2.0, 9.5).
+pub fn whole_at(config: &[u8], at: usize) -> Option<&[u8]>
+    ensures bytes { option_map (λ d. d.now) result ≡ whole_at config.now at }
+    ensures size { IfSome result (λ d. length d.now ≤ 255) }
+{
+    if at > config.len() {
+        return None;
+    }
+    if !begins_at(config, at) {
+        return None;
+    }
+    Some(&config[at..at + usize::from(config[at])])
 }
 
 /// The descriptor that begins at this place.

@@ -8,7 +8,7 @@ pub mod laws;
 mod left;
 mod row;
 
-pub use descriptor::Descriptor;
+pub use descriptor::{Descriptor, whole_at};
 pub use kinds::{ASSOCIATION, BULK, ENDPOINT, INTERFACE, INTERRUPT, following};
 pub use left::left_of;
 pub use row::read_row;

@@ -1,4 +1,4 @@
-use crate::{Descriptor, following, left_of, read_row};
+use crate::{Descriptor, following, left_of, read_row, whole_at};
 
 /// A configuration descriptor, an interface with its endpoint, the same in alternate setting 1 with a descriptor of
 /// a class, and a second interface; worked out by hand from USB 2.0, 9.6.3 to 9.6.6.
@@ -23,6 +23,13 @@ fn rows(rt: HostRuntime) {
     assert_eq!(rt; end, 53);
     assert!(rt; places(row.as_slice(), &[9, 18, 25, 34, 37, 44]));
     assert!(rt; places(left_of(row.as_slice()).as_slice(), &[9, 18, 44]));
+}
+
+#[test]
+fn whole_descriptors(rt: HostRuntime) {
+    assert!(rt; whole_at(&CONFIG, 34).is_some_and(|d| d == [3, 36, 5].as_slice()));
+    assert!(rt; whole_at(&CONFIG[..36], 34).is_none());
+    assert!(rt; whole_at(&CONFIG, 53).is_none() && whole_at(&CONFIG, 54).is_none());
 }
 
 #[test]

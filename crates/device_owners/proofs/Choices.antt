@@ -4,14 +4,14 @@ use Rattle.std.specs.Prelude.{find, cond, ⊤, ◌%◌, if◌then◌else◌}
 use Rattle.std.specs.List.{AllByRecursion}
 use Rattle.usb_packet.specs.declared.setup.Setup.{Setup}
 use Rattle.usb_packet.specs.declared.bus.Owner.{Owner}
-use Rattle.usb_packet.specs.declared.bus.Owner.TheVariants.{Core}
+use Rattle.usb_packet.specs.declared.bus.Owner.TheVariants.{Core, Cdc, Hid, Msc, Midi}
 use Rattle.usb_descriptor.specs.Set.{Set, is_core, owner_of_endpoint, owner_of_interface}
 use Rattle.usb_control.specs.declared.state.CoreState.{CoreState}
 use Rattle.usb_control.specs.declared.state.Effect.{Effect}
 use Rattle.usb_control.specs.declared.state.Effect.TheVariants as effect
 use Rattle.usb_control.specs.declared.state.Choice.{Choice}
 use Rattle.usb_control.specs.declared.state.Choice.TheVariants.{Own, Class}
-use Rattle.usb_control.specs.Table.{gives, status, stalled, class_descriptor, only, given, descriptor_of, unless_zero, is_zero, named, recipient, owner_of, has_endpoint, is_halted, Row, rows, is_row_of, handed, chosen, choice}
+use Rattle.usb_control.specs.Table.{gives, status, stalled, hid_descriptor_of, class_descriptor, only, given, descriptor_of, unless_zero, is_zero, named, recipient, owner_of, has_endpoint, is_halted, Row, rows, is_row_of, handed, chosen, choice}
 use Rattle.device_owners.proofs.Sets.{and_first, same_number}
 
 -- A choice is for an owner: what it changes is the owner's.
@@ -41,8 +41,12 @@ unless_for set o e true h = tt
 unless_for set o e false h = h
 
 -- a class's descriptor
-described_for : (set : Set) (o : Owner) → IsChosenFor set o (class_descriptor o)
-described_for set o = tt
+described_for : (set : Set) (o class : Owner) (value : ℕ) → IsChosenFor set o (class_descriptor class set value)
+described_for set o Core value = tt
+described_for set o Cdc value = tt
+described_for set o Hid value = given_for set o (hid_descriptor_of set value)
+described_for set o Msc value = tt
+described_for set o Midi value = tt
 
 handed_for : (set : Set) (o : Owner) (core : Bool) → IsChosenFor set o (if core then stalled else Class o)
 handed_for set o true = tt
@@ -80,7 +84,7 @@ rows_for set state setup = (
             (
               λ e. given_for set o (descriptor_of set setup.value),
               (
-                λ e. only_for set o _ (class_descriptor o) (described_for set o),
+                λ e. only_for set o _ (class_descriptor o set setup.value) (described_for set o o setup.value),
                 (
                   λ e. tt,
                   (

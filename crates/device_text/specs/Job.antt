@@ -1,5 +1,5 @@
 -- The text of a job: its head, its schedule, and its end.
-use Rattle.std.specs.Prelude.{◌≡◌, ℕ, ◌^◌, ◌≤◌, List, [], ◌∷◌, ◌++◌, length, Bool, true, false, ◌==◌, ◌&&◌, nat_lt, Option, Some, None, is_some, min, if◌then◌else◌, ⊤}
+use Rattle.std.specs.Prelude.{◌≡◌, ℕ, ◌^◌, ◌≤◌, List, [], ◌∷◌, ◌++◌, length, Bool, true, false, ◌==◌, ◌&&◌, nat_lt, Option, Some, None, min, if◌then◌else◌, ⊤}
 use Rattle.std.specs.List.{flat_map, AllByRecursion}
 use Rattle.dwc2_regs.specs.declared.access.TheConstants.{FS4}
 use Rattle.usb_descriptor.specs.declared.strings.StringPart.{StringPart}
@@ -129,7 +129,7 @@ limits = record { in_top = FS4.in_eps; out_top = FS4.out_eps; report_known = tru
 
 -- the first rule of descriptor sets that a head's set breaks, where it breaks one
 abbrev pub set_fault : List HeadLine → Option SetFault
-set_fault lines = verdict (parts_of lines).device (parts_of lines).config (is_some (parts_of lines).report) limits
+set_fault lines = verdict (parts_of lines).device (parts_of lines).config (parts_of lines).report limits
 
 -- a line with the newline that ends it
 abbrev pub head_line : HeadLine → List ℕ

@@ -5,7 +5,7 @@ use Rattle.usb_packet.specs.declared.setup.Setup.{Setup}
 use Rattle.usb_packet.specs.declared.bus.Owner as declared
 use Rattle.usb_packet.specs.declared.bus.Owner.TheVariants as owner
 use Rattle.usb_pipe.specs.declared.decision.Decision.TheVariants.{Data, Status, Stall}
-use Rattle.usb_descriptor.specs.Set.{Set, endpoints_of, interfaces_of, is_numbered, is_addressed, is_core, owner_of_interface, owner_of_endpoint}
+use Rattle.usb_descriptor.specs.Set.{Set, endpoints_of, interfaces_of, is_numbered, is_addressed, is_core, owner_of_interface, owner_of_endpoint, hid_bytes}
 use Rattle.usb_descriptor.specs.Strings.{string_of}
 use Rattle.usb_control.specs.declared.state.CoreState.{CoreState}
 use Rattle.usb_control.specs.declared.state.Effect.{Effect}
@@ -83,9 +83,20 @@ abbrev pub given : Option (List ℕ) → Choice
 given None = stalled
 given (Some bytes) = gives bytes
 
--- the descriptors that the class of an interface has: the core has none, and no class is driven yet
-abbrev pub class_descriptor : declared.Owner → Choice
-class_descriptor o = stalled
+-- the descriptor of HID that wValue asks for: its own is type 21, that of its reports type 22, each with index 0 (HID 1.11,
+-- 7.1.1)
+abbrev pub hid_descriptor_of : Set → ℕ → Option (List ℕ)
+hid_descriptor_of set value =
+    if value == 0x2100 then hid_bytes set.config
+    else (if value == 0x2200 then set.report else None)
+
+-- the descriptors that the class of an interface gives: HID alone gives any
+abbrev pub class_descriptor : declared.Owner → Set → ℕ → Choice
+class_descriptor owner.Core set value = stalled
+class_descriptor owner.Cdc set value = stalled
+class_descriptor owner.Hid set value = given (hid_descriptor_of set value)
+class_descriptor owner.Msc set value = stalled
+class_descriptor owner.Midi set value = stalled
 
 -- ENDPOINT_HALT of endpoint 0 isn't changed
 abbrev pub unless_zero : Setup → Effect → Effect
@@ -129,7 +140,7 @@ rows =
     -- GET_DESCRIPTOR (9.4.3)
     ∷ record { kind = 0x80; request = 6; does = λ set state setup. given (descriptor_of set setup.value) }
     -- of an interface, whose class has it
-    ∷ record { kind = 0x81; request = 6; does = λ set state setup. only state.configured (class_descriptor (owner_of set setup)) }
+    ∷ record { kind = 0x81; request = 6; does = λ set state setup. only state.configured (class_descriptor (owner_of set setup) set setup.value) }
     -- GET_CONFIGURATION (9.4.2)
     ∷ record { kind = 0x80; request = 8; does = λ set state setup. gives ((if state.configured then configuration_value set else 0) ∷ []) }
     -- SET_CONFIGURATION (9.4.7)

@@ -2,7 +2,7 @@ ghost use Rattle.std.specs.Prelude.{◌≡◌, ◌≤◌, ◌∷◌, [], ◌==�
 ghost use Rattle.std.specs.List.{list_any};
 ghost use Rattle.std.specs.Option.{option_map};
 ghost use Rattle.usb_descriptor.specs.Set.{is_addressed};
-ghost use Rattle.usb_control.specs.Table.{choice, owner_of, named, has_interface, is_zero, has_endpoint, is_halted, descriptor_of, given, gives, status, stalled, only, class_descriptor, handed, unless_zero, self_powered, configuration_value};
+ghost use Rattle.usb_control.specs.Table.{choice, owner_of, named, has_interface, is_zero, has_endpoint, is_halted, descriptor_of, given, gives, status, stalled, only, hid_descriptor_of, class_descriptor, handed, unless_zero, self_powered, configuration_value};
 ghost use Rattle.usb_control.specs.Found.{choice_of, IsShort};
 ghost use Rattle.usb_control.specs.declared.state.Effect.TheVariants.{Configure, ClearInterface};
 
@@ -39,7 +39,9 @@ pub fn find<'a>(set: &'a DescSet, state: &CoreState, setup: &Setup) -> Found<'a>
         (0x02, 3) => feature(set, state, setup, Effect::Halt(named(setup))),
         (0x00, 5) if setup.value <= 127 => Found::Status(Effect::Address(setup.value as u8)),
         (0x80, 6) => descriptor(set, setup.value),
-        (0x81, 6) if state.configured => class_descriptor(set, setup),
+        (0x81, 6) if state.configured => {
+            class_descriptor(owner_of(set, setup), set, setup.value)
+        }
         (0x80, 8) => configuration(set, state),
         (0x00, 9) => configure(set, setup),
         (0x81, 0x0a) => alternate_setting(set, state, setup),
@@ -267,13 +269,27 @@ fn set_interface<'a>(set: &'a DescSet, state: &CoreState, setup: &Setup) -> Foun
     }
 }
 
-/// The descriptors that the class of an interface has: the core has none, and no class is driven yet.
-#[allow(unused_variables)]
-fn class_descriptor<'a>(set: &'a DescSet, setup: &Setup) -> Found<'a>
-    ensures value { choice_of result ≡ class_descriptor (owner_of set.now setup.now) }
+/// The descriptor of HID that wValue asks for: its own, whole, or that of its reports (HID 1.11, 7.1.1).
+fn hid_descriptor_of(set: &DescSet, value: u16) -> Option<&[u8]>
+    ensures bytes { option_map (λ d. d.now) result ≡ hid_descriptor_of set.now value }
+    ensures size { IfSome result (λ d. length d.now ≤ 512) }
+{
+    match value {
+        0x2100 => set.hid_descriptor(),
+        0x2200 => set.report(),
+        _ => None,
+    }
+}
+
+/// The descriptors that the class of an interface gives: HID alone gives any.
+fn class_descriptor<'a>(owner: Owner, set: &'a DescSet, value: u16) -> Found<'a>
+    ensures value { choice_of result ≡ class_descriptor owner set.now value }
     ensures short { IsShort result }
 {
-    Found::Stall
+    match owner {
+        Owner::Hid => given(hid_descriptor_of(set, value)),
+        Owner::Core | Owner::Cdc | Owner::Msc | Owner::Midi => Found::Stall,
+    }
 }
 
 /// A class request to an interface, which its owner decides.

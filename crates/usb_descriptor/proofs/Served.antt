@@ -1,7 +1,7 @@
 -- An accepted set has endpoints that are served: what the rules on addresses, on packets and on the highest numbers
 -- give of each descriptor goes over to the endpoints.
 use Rattle.std.proofs.Common.{◌≡◌, ℕ, ◌<◌, ◌≤◌, List, [], ◌∷◌, Bool, true, false, eqb, length, map, get_or, None, refl, ap, sym, subst, arith, inl, inr, Fits, w8}
-use Rattle.std.specs.Prelude.{◌⊎◌, is_some}
+use Rattle.std.specs.Prelude.{◌⊎◌}
 use Rattle.std.specs.List.{IsDistinct, AllByRecursion}
 use Rattle.std.proofs.lemmas.Bool.{cases_Bool}
 use Rattle.std.proofs.lemmas.Bool.Decides.{nat_tests}
@@ -12,7 +12,7 @@ use Rattle.usb_descriptor.specs.declared.limits.EpLimits.{EpLimits}
 use Rattle.usb_descriptor.specs.declared.rule.Rule.TheVariants as rule
 use Rattle.usb_descriptor.specs.declared.endpoint.Endpoint.{Endpoint}
 use Rattle.usb_descriptor.specs.Rules.{has_wrong_packets, has_wrong_top, first_from, first_broken}
-use Rattle.usb_descriptor.specs.Verdict.{device_fault, config_fault, row_fault, rule_fault, rules, first_fault, earlier}
+use Rattle.usb_descriptor.specs.Verdict.{device_fault, config_fault, row_fault, rule_fault, has_bad_report, rules, first_fault, earlier}
 use Rattle.usb_packet.specs.declared.bus.Owner.{Owner}
 use Rattle.usb_packet.specs.declared.bus.Owner.TheVariants.{Core}
 use Rattle.descriptor_groups.specs.Groups.{owner_of_number}
@@ -69,9 +69,10 @@ addresses_of owner before (d ∷ ds) =
 
 -- an accepted set breaks no rule from the eighth on
 pub unbroken_rules : (set : Set) (limits : EpLimits) → IsAccepted set limits
-    → AllByRecursion (λ r. rule_fault limits (row_of set.config) (left_of (row_of set.config)) (get_or set.config 4 0) (is_some set.report) r ≡ None) rules
+    → AllByRecursion (λ r. rule_fault limits (row_of set.config) (left_of (row_of set.config)) (get_or set.config 4 0)
+    (has_bad_report limits (left_of (row_of set.config)) set.report) r ≡ None) rules
 unbroken_rules set limits h =
-    let f = rule_fault limits (row_of set.config) (left_of (row_of set.config)) (get_or set.config 4 0) (is_some set.report) in
+    let f = rule_fault limits (row_of set.config) (left_of (row_of set.config)) (get_or set.config 4 0) (has_bad_report limits (left_of (row_of set.config)) set.report) in
     let later = earlier (config_fault set.config) (earlier (row_fault set.config) (first_fault f rules)) in
     let x = earlier_parts (device_fault set.device) later h in
     let y = earlier_parts (config_fault set.config) (earlier (row_fault set.config) (first_fault f rules)) x.1 in

@@ -5,3 +5,4 @@ pub mod Set
 pub mod Served
 pub mod Strings
 pub mod Examples
+pub mod ReportExamples

@@ -1,7 +1,7 @@
 -- What each rule from the eighth on forbids of one descriptor. It stands in a row: the descriptors before
 -- it, and those after it. All but `has_wrong_size` speak of the row without its passed-over parts.
 -- A code of a class, a subclass, a protocol or a descriptor type is written as the number that it is.
-use Rattle.std.specs.Prelude.{ℕ, ◌+◌, ◌/◌, ◌%◌, List, [], ◌∷◌, ◌++◌, Bool, not, ◌==◌, ◌&&◌, ◌||◌, nat_lt, Option, Some, None, if◌then◌else◌, count_by}
+use Rattle.std.specs.Prelude.{ℕ, ◌+◌, ◌/◌, ◌%◌, List, [], ◌∷◌, ◌++◌, Bool, false, not, ◌==◌, ◌&&◌, ◌||◌, nat_lt, Option, Some, None, if◌then◌else◌, count_by}
 use Rattle.std.specs.List.{list_any}
 use Rattle.descriptor_row.specs.declared.descriptor.Descriptor.{Descriptor}
 use Rattle.usb_descriptor.specs.declared.limits.EpLimits.{EpLimits}
@@ -9,7 +9,7 @@ use Rattle.usb_descriptor.specs.declared.rule.Rule.{Rule}
 use Rattle.usb_descriptor.specs.declared.rule.Rule.TheVariants as rule
 use Rattle.descriptor_row.specs.Row.{byte, size, word}
 use Rattle.descriptor_row.specs.Kinds.{is_interface, is_endpoint, is_association, number, claimed, address, is_in, endpoint_number, transfer, bulk, following}
-use Rattle.descriptor_groups.specs.Parts.{has_wrong_serial, is_hid, has_wrong_hid, has_wrong_pair}
+use Rattle.descriptor_groups.specs.Parts.{has_wrong_serial, has_wrong_hid, has_wrong_pair}
 
 -- the eighth: an interface has 9 bytes (USB 2.0, 9.6.5), an endpoint 7 (9.6.6), or 9 as the audio class
 -- writes it, an association 8
@@ -55,8 +55,7 @@ abbrev pub has_wrong_span : List Descriptor → Descriptor → Bool
 has_wrong_span row d =
     is_association d && ((byte d 3 == 0) || nat_lt (count_by is_interface row) (byte d 2 + byte d 3))
 
--- whether a descriptor breaks a rule; a set with an interface of class 03 breaks the seventeenth, until
--- report descriptors are read
+-- whether a descriptor breaks a rule; the seventeenth is one of the whole set, which no descriptor breaks by itself
 abbrev pub breaks : EpLimits → Rule → List Descriptor → List Descriptor → Descriptor → List Descriptor → Bool
 breaks limits rule.Sizes row before d after = has_wrong_size d
 breaks limits rule.Numbers row before d after = has_wrong_number before d
@@ -67,7 +66,7 @@ breaks limits rule.Tops row before d after = has_wrong_top limits d
 breaks limits rule.Spans row before d after = has_wrong_span row d
 breaks limits rule.Serial row before d after = has_wrong_serial row before d after
 breaks limits rule.Hid row before d after = has_wrong_hid before d after
-breaks limits rule.Reports row before d after = is_hid d
+breaks limits rule.Reports row before d after = false
 breaks limits rule.Pairs row before d after = has_wrong_pair before d after
 
 -- the place of the first descriptor of a row that breaks a rule

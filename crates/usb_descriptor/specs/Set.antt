@@ -1,5 +1,5 @@
 -- What an accepted set shows: its bytes, and its interfaces and endpoints with their owners.
-use Rattle.std.specs.Prelude.{◌≡◌, is_some, ℕ, List, [], ◌∷◌, Bool, true, false, ◌==◌, ◌&&◌, ◌||◌, position, Option, Some, None, if◌then◌else◌, map, filter, find}
+use Rattle.std.specs.Prelude.{◌≡◌, ℕ, List, [], ◌∷◌, Bool, true, false, ◌==◌, ◌&&◌, ◌||◌, position, Option, Some, None, if◌then◌else◌, map, filter, find}
 use Rattle.std.specs.List.{list_any}
 use Rattle.usb_packet.specs.declared.bus.Owner.{Owner}
 use Rattle.usb_packet.specs.declared.bus.Owner.TheVariants.{Core, Cdc, Hid, Msc, Midi}
@@ -10,9 +10,10 @@ use Rattle.usb_descriptor.specs.declared.endpoint.Endpoint.{Endpoint}
 use Rattle.usb_descriptor.specs.declared.endpoint.Interface.{Interface}
 use Rattle.usb_descriptor.specs.declared.strings.StringDescriptor.{StringDescriptor}
 use Rattle.usb_descriptor.specs.declared.limits.EpLimits.{EpLimits}
-use Rattle.descriptor_row.specs.Row.{byte, row_of}
+use Rattle.descriptor_row.specs.Row.{byte, row_of, whole_at}
 use Rattle.descriptor_row.specs.Kinds.{is_interface, is_endpoint, number, address, transfer, bulk, following_place, left_of}
 use Rattle.descriptor_groups.specs.Groups.{owner_of_number, lead_number}
+use Rattle.descriptor_groups.specs.Reports.{hid_descriptor}
 use Rattle.usb_descriptor.specs.Verdict.{verdict}
 
 -- a set, by the descriptors that a host can ask for
@@ -24,7 +25,7 @@ pub record Set : Type 0 where
 
 -- whether a set is accepted: it breaks none of the eighteen rules
 abbrev pub IsAccepted : Set → EpLimits → Type 0
-IsAccepted set limits = verdict set.device set.config (is_some set.report) limits ≡ None
+IsAccepted set limits = verdict set.device set.config set.report limits ≡ None
 
 abbrev pub kind_of : ℕ → EpKind
 kind_of transfer = if transfer == bulk then Bulk else Interrupt
@@ -128,3 +129,12 @@ has_owner config owner = is_core owner || list_any (belongs owner) (interfaces_o
 -- the interface that stands for a class that is built; the core is no class
 abbrev pub interface_of : List ℕ → Owner → Option ℕ
 interface_of config owner = lead_number (left_of (row_of config)) owner
+
+-- the bytes of a descriptor of a configuration, whole
+abbrev pub bytes_in : List ℕ → Option Descriptor → Option (List ℕ)
+bytes_in config None = None
+bytes_in config (Some d) = whole_at config d.at
+
+-- the HID descriptor of the first HID interface, with all the descriptors that it names (HID 1.11, 6.2.1)
+abbrev pub hid_bytes : List ℕ → Option (List ℕ)
+hid_bytes config = bytes_in config (hid_descriptor (left_of (row_of config)))

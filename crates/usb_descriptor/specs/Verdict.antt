@@ -8,6 +8,7 @@ use Rattle.usb_descriptor.specs.declared.rule.Rule.{Rule}
 use Rattle.usb_descriptor.specs.declared.rule.Rule.TheVariants as rule
 use Rattle.descriptor_row.specs.Row.{row_of, row_end}
 use Rattle.descriptor_row.specs.Kinds.{is_interface, left_of}
+use Rattle.descriptor_groups.specs.Reports.{has_wrong_report}
 use Rattle.usb_descriptor.specs.Rules.{first_broken}
 
 -- the fault of a rule that is broken as a whole, with the place 0; of one that a descriptor breaks, with its place
@@ -44,19 +45,23 @@ abbrev pub row_fault : List ℕ → Option SetFault
 row_fault config = if row_end config == length config then None else Some (record { rule = 7; at = row_end config })
 
 -- 8 to 18, of the row of a configuration and what is left of it. 9: bNumInterfaces (9.6.3) is how many
--- there are, too. 17: no report descriptor is given either, until they are read.
+-- there are, too. 17: the report descriptor isn't the one that the set is to have.
 abbrev pub rule_fault : EpLimits → List Descriptor → List Descriptor → ℕ → Bool → Rule → Option SetFault
-rule_fault limits row left claimed reports rule.Sizes = fault_at 8 (first_broken limits rule.Sizes row)
-rule_fault limits row left claimed reports rule.Numbers = fault_if 9 (is_some (first_broken limits rule.Numbers left) || not (count_by is_interface left == claimed))
-rule_fault limits row left claimed reports rule.Counts = fault_at 10 (first_broken limits rule.Counts left)
-rule_fault limits row left claimed reports rule.Addresses = fault_at 11 (first_broken limits rule.Addresses left)
-rule_fault limits row left claimed reports rule.Packets = fault_at 12 (first_broken limits rule.Packets left)
-rule_fault limits row left claimed reports rule.Tops = fault_at 13 (first_broken limits rule.Tops left)
-rule_fault limits row left claimed reports rule.Spans = fault_at 14 (first_broken limits rule.Spans left)
-rule_fault limits row left claimed reports rule.Serial = fault_if 15 (is_some (first_broken limits rule.Serial left))
-rule_fault limits row left claimed reports rule.Hid = fault_if 16 (is_some (first_broken limits rule.Hid left))
-rule_fault limits row left claimed reports rule.Reports = fault_if 17 (is_some (first_broken limits rule.Reports left) || reports)
-rule_fault limits row left claimed reports rule.Pairs = fault_if 18 (is_some (first_broken limits rule.Pairs left))
+rule_fault limits row left claimed wrong_report rule.Sizes = fault_at 8 (first_broken limits rule.Sizes row)
+rule_fault limits row left claimed wrong_report rule.Numbers = fault_if 9 (is_some (first_broken limits rule.Numbers left) || not (count_by is_interface left == claimed))
+rule_fault limits row left claimed wrong_report rule.Counts = fault_at 10 (first_broken limits rule.Counts left)
+rule_fault limits row left claimed wrong_report rule.Addresses = fault_at 11 (first_broken limits rule.Addresses left)
+rule_fault limits row left claimed wrong_report rule.Packets = fault_at 12 (first_broken limits rule.Packets left)
+rule_fault limits row left claimed wrong_report rule.Tops = fault_at 13 (first_broken limits rule.Tops left)
+rule_fault limits row left claimed wrong_report rule.Spans = fault_at 14 (first_broken limits rule.Spans left)
+rule_fault limits row left claimed wrong_report rule.Serial = fault_if 15 (is_some (first_broken limits rule.Serial left))
+rule_fault limits row left claimed wrong_report rule.Hid = fault_if 16 (is_some (first_broken limits rule.Hid left))
+rule_fault limits row left claimed wrong_report rule.Reports = fault_if 17 wrong_report
+rule_fault limits row left claimed wrong_report rule.Pairs = fault_if 18 (is_some (first_broken limits rule.Pairs left))
+
+-- where report descriptors are known, a set's is judged; where they aren't, nothing is asked of it
+abbrev pub has_bad_report : EpLimits → List Descriptor → Option (List ℕ) → Bool
+has_bad_report limits left report = limits.report_known && has_wrong_report left report
 
 abbrev pub rules : List Rule
 rules = rule.Sizes ∷ rule.Numbers ∷ rule.Counts ∷ rule.Addresses ∷ rule.Packets ∷ rule.Tops ∷ rule.Spans ∷ rule.Serial
@@ -68,7 +73,8 @@ first_fault fault [] = None
 first_fault fault (rule ∷ rest) = earlier (fault rule) (first_fault fault rest)
 
 -- the fault of the lowest rule that a set breaks; none where it is accepted
-abbrev pub verdict : List ℕ → List ℕ → Bool → EpLimits → Option SetFault
-verdict device config reports limits =
+abbrev pub verdict : List ℕ → List ℕ → Option (List ℕ) → EpLimits → Option SetFault
+verdict device config report limits =
     earlier (device_fault device) (earlier (config_fault config) (earlier (row_fault config)
-    (first_fault (rule_fault limits (row_of config) (left_of (row_of config)) (slice_index config 4) reports) rules)))
+    (first_fault (rule_fault limits (row_of config) (left_of (row_of config)) (slice_index config 4)
+    (has_bad_report limits (left_of (row_of config)) report)) rules)))

@@ -6,10 +6,11 @@ use crate::rule::{
     Rule, has_wrong_address, has_wrong_count, has_wrong_number, has_wrong_packets, has_wrong_size,
     has_wrong_span, has_wrong_top,
 };
-use descriptor_groups::{has_wrong_hid, has_wrong_pair, has_wrong_serial, is_hid};
+use descriptor_groups::{has_wrong_hid, has_wrong_pair, has_wrong_serial};
 use descriptor_row::Descriptor;
 
-/// Whether a descriptor breaks a rule, among those before it and after it in a row.
+/// Whether a descriptor breaks a rule, among those before it and after it in a row. The rule on report descriptors is one of
+/// the whole set, which no descriptor breaks by itself.
 fn breaks(
     limits: EpLimits,
     rule: Rule,
@@ -30,7 +31,7 @@ fn breaks(
         Rule::Spans => has_wrong_span(row, d),
         Rule::Serial => has_wrong_serial(row, before, d, after),
         Rule::Hid => has_wrong_hid(before, d, after),
-        Rule::Reports => is_hid(d),
+        Rule::Reports => false,
         Rule::Pairs => has_wrong_pair(before, d, after),
     }
 }

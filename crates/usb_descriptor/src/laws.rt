@@ -5,6 +5,7 @@ ghost use Rattle.usb_descriptor.specs.Set.{IsAccepted, endpoints_of};
 ghost use Rattle.usb_descriptor.specs.Served.{AreServed};
 ghost use Rattle.usb_descriptor.specs.Owners.{AreToldApart, AreGrouped, AreAlwaysGrouped, AreLed};
 ghost use Rattle.usb_descriptor.specs.Examples.{OwnersWorked};
+ghost use Rattle.usb_descriptor.specs.ReportExamples.{ReportSetsWorked};
 
 use crate::limits::EpLimits;
 use crate::set::DescSet;
@@ -49,6 +50,12 @@ pub fn classes_are_led(set: &DescSet)
 /// The owners of the interfaces and endpoints of some configurations that were worked by hand, where every class is built.
 pub fn owners_worked()
     ensures { OwnersWorked }
+{}
+
+/// The verdict on some sets with a HID interface that were worked by hand, and their HID descriptors.
+#[tactic(auto, unfolding(hid_items::specs::Lengths::lengths_of))]
+pub fn report_sets_worked()
+    ensures { ReportSetsWorked }
 {}
 
 /// A byte has eight bits.

@@ -5,8 +5,7 @@ pub struct EpLimits {
     pub in_top: u8,
     /// The highest number of an OUT endpoint.
     pub out_top: u8,
-    /// Whether the report descriptor of a HID interface is at hand. A set with such an interface, or with
-    /// a report descriptor, is refused whatever this says, until report descriptors are read.
+    /// Whether the report descriptor of a HID interface is at hand. Where it isn't, rule 17 asks nothing.
     pub report_known: bool,
 }
 

@@ -28,7 +28,7 @@ pub enum Rule {
     Serial,
     /// The group of a HID interface.
     Hid,
-    /// Report descriptors.
+    /// The report descriptor of the set.
     Reports,
     /// Mass storage and MIDI: a bulk endpoint in each direction.
     Pairs,

@@ -1,10 +1,11 @@
-ghost use Rattle.std.specs.Prelude.{◌≡◌, ◌≤◌, length, map, is_some, IfOk, IfErr, IfSome};
+ghost use Rattle.std.specs.Prelude.{◌≡◌, ◌≤◌, length, map, IfOk, IfErr, IfSome};
 ghost use Rattle.std.specs.Option.{option_map};
 ghost use Rattle.std.specs.Prelude.{Some, None};
 ghost use Rattle.usb_descriptor.specs.Strings.{Ascend, string_descriptor, string_of};
 ghost use Rattle.usb_descriptor.specs.Verdict.{verdict};
-ghost use Rattle.usb_descriptor.specs.Set.{Set, IsAccepted, interfaces_of, endpoints_of, is_numbered, owner_of_interface, owner_of_endpoint, has_owner, has_endpoint, interface_of};
+ghost use Rattle.usb_descriptor.specs.Set.{Set, IsAccepted, interfaces_of, endpoints_of, is_numbered, owner_of_interface, owner_of_endpoint, has_owner, has_endpoint, interface_of, bytes_in, hid_bytes};
 ghost use Rattle.std.specs.List.{list_any};
+ghost use Rattle.descriptor_groups.specs.Reports.{hid_descriptor};
 
 use crate::endpoint::{
     Endpoint, Interface, any_addressed, any_belongs, any_numbered, endpoint_owner, endpoints_in,
@@ -14,8 +15,8 @@ use crate::limits::{EpLimits, SetFault};
 use crate::strings::{StringDescriptor, StringPart, descriptors_of, string_of};
 use crate::verdict::verdict;
 use arrayvec::ArrayVec;
-use descriptor_groups::lead_number;
-use descriptor_row::{left_of, read_row};
+use descriptor_groups::{hid_descriptor, lead_number};
+use descriptor_row::{Descriptor, left_of, read_row, whole_at};
 use std::marker::Model;
 use usb_packet::Owner;
 
@@ -65,8 +66,8 @@ pub fn read_set(parts: &SetParts<'_>, limits: EpLimits) -> Result<DescSet, SetFa
     requires few { length parts.now.strings.now ≤ 8 }
     requires ascending { Ascend 1 parts.now.strings.now }
     requires report { IfSome parts.now.report (λ r. length r.now ≤ 512) }
-    ensures refused { IfErr result (λ fault. verdict parts.now.device.now parts.now.config.now (is_some parts.now.report) limits ≡ Some fault) }
-    ensures accepted { IfOk result (λ _. verdict parts.now.device.now parts.now.config.now (is_some parts.now.report) limits ≡ None) }
+    ensures refused { IfErr result (λ fault. verdict parts.now.device.now parts.now.config.now (option_map (λ r. r.now) parts.now.report) limits ≡ Some fault) }
+    ensures accepted { IfOk result (λ _. verdict parts.now.device.now parts.now.config.now (option_map (λ r. r.now) parts.now.report) limits ≡ None) }
     ensures meets { IfOk result (λ set. IsAccepted set limits) }
     ensures shows { IfOk result (λ set. set ≡ record {
       device = parts.now.device.now;
@@ -75,7 +76,7 @@ pub fn read_set(parts: &SetParts<'_>, limits: EpLimits) -> Result<DescSet, SetFa
       report = option_map (λ r. r.now) parts.now.report;
     }) }
 {
-    if let Some(fault) = verdict(parts.device, parts.config, parts.report.is_some(), limits) {
+    if let Some(fault) = verdict(parts.device, parts.config, parts.report, limits) {
         return Err(fault);
     }
     let (row, _) = read_row(parts.config);
@@ -111,6 +112,17 @@ fn report_of(report: Option<&[u8]>) -> Option<ArrayVec<u8, 512>>
     }
 }
 
+/// The bytes of a descriptor of a configuration, whole, where they lie.
+fn bytes_in(config: &[u8], d: Option<Descriptor>) -> Option<&[u8]>
+    ensures bytes { option_map (λ d. d.now) result ≡ bytes_in config.now d }
+    ensures size { IfSome result (λ d. length d.now ≤ 255) }
+{
+    match d {
+        None => None,
+        Some(d) => whole_at(config, usize::from(d.at)),
+    }
+}
+
 impl DescSet {
     /// The device descriptor.
     pub fn device(&self) -> &[u8]
@@ -140,12 +152,25 @@ impl DescSet {
 
     /// The report descriptor of the HID interface.
     pub fn report(&self) -> Option<&[u8]>
-        ensures { option_map (λ r. r.now) result ≡ self.now.report }
+        ensures value { option_map (λ r. r.now) result ≡ self.now.report }
+        ensures size { IfSome result (λ r. length r.now ≤ 512) }
     {
         match &self.report {
             None => None,
             Some(report) => Some(report.as_slice()),
         }
+    }
+
+    /// The HID descriptor of the first HID interface, whole, where it lies in the configuration. It has more than 9 bytes where
+    /// it names more than the report descriptor (HID 1.11, 6.2.1).
+    pub fn hid_descriptor(&self) -> Option<&[u8]>
+        ensures bytes { option_map (λ d. d.now) result ≡ hid_bytes self.now.config }
+        ensures size { IfSome result (λ d. length d.now ≤ 255) }
+    {
+        let config = self.config.as_slice();
+        let (row, _) = read_row(config);
+        let left = left_of(row.as_slice());
+        bytes_in(config, hid_descriptor(left.as_slice()))
     }
 
     /// The endpoints, in the order of the configuration, without those of passed-over alternate settings.

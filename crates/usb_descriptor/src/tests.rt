@@ -368,6 +368,44 @@ fn configurations(rt: HostRuntime) {
     assert_eq!(rt; judged(DEVICES[2].0, CONFIGS[14].0, None), (1, 0));
 }
 
+/// The keyboard of HID 1.11, E.2 to E.5, whose IN endpoint has packets of 8 bytes.
+const KEYBOARD: &[u8] =
+    b"\x09\x02\x22\x00\x01\x01\x00\xa0\x32\x09\x04\x00\x00\x01\x03\x01\x01\x00\x09\x21\x01\x01\x00\x01\x22\x3f\x00\x07\x05\x81\x03\x08\x00\x0a";
+
+/// Its report descriptor (E.6).
+const KEYBOARD_REPORT: &[u8] =
+    b"\x05\x01\x09\x06\xa1\x01\x05\x07\x19\xe0\x29\xe7\x15\x00\x25\x01\x75\x01\x95\x08\x81\x02\x95\x01\x75\x08\x81\x01\x95\x05\x75\x01\x05\x08\x19\x01\x29\x05\x91\x02\x95\x01\x75\x03\x91\x01\x95\x06\x75\x08\x15\x00\x25\x65\x05\x07\x19\x00\x29\x65\x81\x00\xc0";
+
+/// A HID interface that names a report descriptor of 4 bytes and a physical descriptor.
+const TWO_NAMED: &[u8] =
+    b"\x09\x02\x25\x00\x01\x01\x00\x80\x32\x09\x04\x00\x00\x01\x03\x00\x00\x00\x0c\x21\x11\x01\x00\x02\x22\x04\x00\x23\x04\x00\x07\x05\x81\x03\x08\x00\x0a";
+
+/// Sets are judged by their report descriptor, and show it and their HID descriptor.
+#[test]
+fn reports(rt: HostRuntime) {
+    let device = DEVICES[0].0;
+    let set = read(device, KEYBOARD, &[], Some(KEYBOARD_REPORT)).expect(&rt, "accepted");
+    assert!(rt; set.report().is_some_and(|r| r == KEYBOARD_REPORT));
+    assert!(rt; set.hid_descriptor().is_some_and(|d| d == &KEYBOARD[18..27]));
+    let no_field = b"\x75\x08\x95\x01".as_slice();
+    let set = read(device, TWO_NAMED, &[], Some(no_field)).expect(&rt, "accepted");
+    assert!(rt;
+        set.hid_descriptor()
+            .is_some_and(|d| d == &TWO_NAMED[18..30])
+    );
+    assert!(rt; set.report().is_some_and(|r| r == no_field));
+    assert_eq!(rt; judged(device, TWO_NAMED, None), (17, 0));
+    assert_eq!(rt; judged(device, TWO_NAMED, Some(b"\x75\x08\x95")), (17, 0));
+    assert_eq!(rt;
+        judged(device, TWO_NAMED, Some(b"\x75\x08\x95\x01\xc0")),
+        (17, 0)
+    );
+    assert_eq!(rt;
+        judged(device, TWO_NAMED, Some(b"\xa1\x01\x95\x01")),
+        (17, 0)
+    );
+}
+
 /// 512 bytes are read, in two long descriptors of a type that no rule speaks of, and 513 are not.
 #[test]
 fn sizes(rt: HostRuntime) {

@@ -1,12 +1,14 @@
-ghost use Rattle.std.specs.Prelude.{◌≡◌, ◌<◌, ◌≤◌, ◌+◌, length, filter, IfNone, slice_index};
+ghost use Rattle.std.specs.Prelude.{◌≡◌, ◌<◌, ◌≤◌, ◌+◌, length, filter, IfNone, IfSome, slice_index};
+ghost use Rattle.std.specs.Option.{option_map};
 ghost use Rattle.usb_packet.specs.Setup.{word_at};
-ghost use Rattle.usb_descriptor.specs.Verdict.{fault_if, fault_at, device_fault, config_fault, row_fault, rule_fault, rules, first_fault, verdict};
+ghost use Rattle.usb_descriptor.specs.Verdict.{fault_if, fault_at, device_fault, config_fault, row_fault, rule_fault, has_bad_report, rules, first_fault, verdict};
 ghost use Rattle.descriptor_row.specs.Row.{row_of, row_end};
 ghost use Rattle.descriptor_row.specs.Kinds.{is_endpoint, left_of};
 
 use crate::broken::first_broken;
 use crate::limits::{EpLimits, SetFault};
 use crate::rule::{Rule, interfaces};
+use descriptor_groups::has_wrong_report;
 use descriptor_row::{Descriptor, left_of, read_row};
 
 /// The rules A8 to A18, in their order.
@@ -83,16 +85,24 @@ fn config_fault(config: &[u8]) -> Option<SetFault>
     fault_if(6, config[5] == 0)
 }
 
+/// Whether a set's report descriptor is wrong, where such descriptors are known.
+fn has_bad_report(limits: EpLimits, left: &[Descriptor], report: Option<&[u8]>) -> bool
+    requires { IfSome report (λ r. length r.now ≤ 512) }
+    ensures { result ≡ has_bad_report limits left.now (option_map (λ r. r.now) report.entry) }
+{
+    limits.report_known && has_wrong_report(left, report)
+}
+
 /// The fault of one of the rules A8 to A18.
 fn rule_fault(
     limits: EpLimits,
     row: &[Descriptor],
     left: &[Descriptor],
     claimed: u8,
-    reports: bool,
+    wrong_report: bool,
     rule: Rule,
 ) -> Option<SetFault>
-    ensures { result ≡ rule_fault limits row.now left.now claimed reports rule }
+    ensures { result ≡ rule_fault limits row.now left.now claimed wrong_report rule }
 {
     match rule {
         Rule::Sizes => fault_at(8, first_broken(limits, rule, row)),
@@ -107,7 +117,7 @@ fn rule_fault(
         Rule::Spans => fault_at(14, first_broken(limits, rule, left)),
         Rule::Serial => fault_if(15, first_broken(limits, rule, left).is_some()),
         Rule::Hid => fault_if(16, first_broken(limits, rule, left).is_some()),
-        Rule::Reports => fault_if(17, first_broken(limits, rule, left).is_some() || reports),
+        Rule::Reports => fault_if(17, wrong_report),
         Rule::Pairs => fault_if(18, first_broken(limits, rule, left).is_some()),
     }
 }
@@ -118,12 +128,12 @@ fn first_fault(
     row: &[Descriptor],
     left: &[Descriptor],
     claimed: u8,
-    reports: bool,
+    wrong_report: bool,
 ) -> Option<SetFault>
-    ensures { result ≡ first_fault (rule_fault limits row.now left.now claimed reports) rules }
+    ensures { result ≡ first_fault (rule_fault limits row.now left.now claimed wrong_report) rules }
 {
     for rule in RULES {
-        let fault = rule_fault(limits, row, left, claimed, reports, rule);
+        let fault = rule_fault(limits, row, left, claimed, wrong_report, rule);
         if fault.is_some() {
             return fault;
         }
@@ -132,8 +142,14 @@ fn first_fault(
 }
 
 /// The fault of the lowest rule that a set breaks.
-pub fn verdict(device: &[u8], config: &[u8], reports: bool, limits: EpLimits) -> Option<SetFault>
-    ensures value { result ≡ verdict device.now config.now reports limits }
+pub fn verdict(
+    device: &[u8],
+    config: &[u8],
+    report: Option<&[u8]>,
+    limits: EpLimits,
+) -> Option<SetFault>
+    requires { IfSome report (λ r. length r.now ≤ 512) }
+    ensures value { result ≡ verdict device.now config.now (option_map (λ r. r.now) report.entry) limits }
     ensures device { IfNone result (length device.now ≤ 18) }
     ensures low { IfNone result (9 ≤ length config.now) }
     ensures high { IfNone result (length config.now ≤ 512) }
@@ -150,5 +166,12 @@ pub fn verdict(device: &[u8], config: &[u8], reports: bool, limits: EpLimits) ->
         return fault_at(7, Some(end as u16));
     }
     let left = left_of(row.as_slice());
-    first_fault(limits, row.as_slice(), left.as_slice(), config[4], reports)
+    let wrong_report = has_bad_report(limits, left.as_slice(), report);
+    first_fault(
+        limits,
+        row.as_slice(),
+        left.as_slice(),
+        config[4],
+        wrong_report,
+    )
 }

@@ -13,7 +13,7 @@ use Rattle.usb_control.specs.declared.state.Effect.{Effect}
 use Rattle.usb_control.specs.declared.state.Effect.TheVariants as effect
 use Rattle.usb_control.specs.declared.state.Choice.{Choice}
 use Rattle.usb_control.specs.declared.state.Choice.TheVariants.{Own, Class}
-use Rattle.usb_control.specs.Table.{Row, rows, is_row_of, chosen, choice, only, status, given, handed, class_descriptor, is_zero, has_interface, has_endpoint, descriptor_of, owner_of, configuration_value, named}
+use Rattle.usb_control.specs.Table.{Row, rows, is_row_of, chosen, choice, only, status, given, handed, hid_descriptor_of, class_descriptor, is_zero, has_interface, has_endpoint, descriptor_of, owner_of, configuration_value, named}
 use Rattle.usb_packet.specs.Setup.{fields_of}
 use Rattle.device_machine.specs.Packets.{data_packets}
 use Rattle.usb_pipe.specs.Rules.{Rules}
@@ -35,8 +35,12 @@ near_given : (bytes : Option (List ℕ)) → IsNear (given bytes)
 near_given None = tt
 near_given (Some bytes) = tt
 
-near_descriptor : (o : Owner) → IsNear (class_descriptor o)
-near_descriptor o = tt
+near_descriptor : (o : Owner) (set : Set) (value : ℕ) → IsNear (class_descriptor o set value)
+near_descriptor owner.Core set value = tt
+near_descriptor owner.Cdc set value = tt
+near_descriptor owner.Hid set value = near_given (hid_descriptor_of set value)
+near_descriptor owner.Msc set value = tt
+near_descriptor owner.Midi set value = tt
 
 near_handed : (o : Owner) → IsNear (handed o)
 near_handed owner.Core = tt
@@ -74,7 +78,7 @@ near_rows set state setup =
     also near_only ((setup.value == 0) && has_endpoint set state setup) _ (near_halt (is_zero setup) (named setup))
     also near_address setup.value (nat_le setup.value 127) refl
     also near_given (descriptor_of set setup.value)
-    also near_only state.configured _ (near_descriptor (owner_of set setup))
+    also near_only state.configured _ (near_descriptor (owner_of set setup) set setup.value)
     also tt
     also near_only ((setup.value == 0) || (setup.value == configuration_value set)) _ tt
     also near_only (has_interface set state setup) _ tt

@@ -1,5 +1,5 @@
 -- From the head and the schedule to how the program ends.
-use Rattle.std.proofs.Common.{◌≡◌, ℕ, ◌+◌, ◌≤◌, List, [], ◌∷◌, ◌++◌, Bool, true, false, length, refl, ap, sym, ◌∙◌, subst, append_assoc, arith, Option, Some, None, inl, inr, ◌⊎◌, map, get_or, Bor, is_some}
+use Rattle.std.proofs.Common.{◌≡◌, ℕ, ◌+◌, ◌≤◌, List, [], ◌∷◌, ◌++◌, Bool, true, false, length, refl, ap, sym, ◌∙◌, subst, append_assoc, arith, Option, Some, None, inl, inr, ◌⊎◌, map, get_or, Bor}
 use Rattle.std.proofs.lemmas.List.{append-nil, map-append}
 use Rattle.std.proofs.lemmas.List.Concat.{flat_map-append}
 use Rattle.std.specs.Str.{bytes_eq}
@@ -8,7 +8,6 @@ use Rattle.std.specs.Option.{option_map}
 use Rattle.std.proofs.lemmas.Slice.Eq.{bytes_eq-Decides}
 use Rattle.usb_edge.specs.Stream.{Reads, Takes, Rose, IsAtEnd, counted}
 use Rattle.usb_edge.proofs.Streams.{takes-nothing}
-use Rattle.arrayvec.specs.ArrayVec.{ArrayVec}
 use Rattle.usb_descriptor.specs.declared.strings.StringPart.{StringPart}
 use Rattle.usb_descriptor.specs.Strings.{string_descriptor}
 use Rattle.usb_descriptor.specs.Set.{Set}
@@ -107,10 +106,6 @@ head_front : (draft : Draft) (left left' : Option (List ℕ)) (new : Lines) (res
 head_front draft left left' new rest h ends e =
     front_of left left' new h.heads [] rest (head_gone left left' new h.heads h.gone) ends h.lines tt (inl refl) (head_small draft left left' new h) e
 
-some_is : (r : Option (ArrayVec ℕ)) → is_some r ≡ is_some (option_map (λ (v : ArrayVec ℕ). v.items) r)
-some_is None = refl
-some_is (Some v) = refl
-
 -- a world is that of its set and its disk
 pub world_is : (set set' : Set) (blocks blocks' : Option ℕ) → set ≡ set' → blocks ≡ blocks' → world_of set blocks ≡ world_of set' blocks'
 world_is set set' blocks blocks' s b = ap (λ (x : Set). world_of x blocks) s ∙ ap (λ (x : Option ℕ). world_of set' x) b
@@ -121,19 +116,18 @@ pub set_accepted : (draft : Draft) (set : Set) → set ≡ record {
   config = draft.config.items;
   strings = map string_descriptor draft.strings.items;
   report = option_map (λ r. r.items) draft.report;
-} → verdict draft.device.items draft.config.items (is_some draft.report) limits ≡ None → verdict set.device set.config (is_some set.report) limits ≡ None
+} → verdict draft.device.items draft.config.items (option_map (λ r. r.items) draft.report) limits ≡ None → verdict set.device set.config set.report limits ≡ None
 set_accepted draft set e ok =
-    subst (λ (s : Set). verdict s.device s.config (is_some s.report) limits ≡ None) (sym e)
-    (ap (λ r. verdict draft.device.items draft.config.items r limits) (sym (some_is draft.report)) ∙ ok)
+    subst (λ (s : Set). verdict s.device s.config s.report limits ≡ None) (sym e) ok
 
 module _ (draft : Draft) (left left' : Option (List ℕ)) (new : Lines) (h : HeadSoFar draft left left' new_lines new) where
-  set_is : verdict draft.device.items draft.config.items (is_some draft.report) limits ≡ set_fault h.heads
+  set_is : verdict draft.device.items draft.config.items (option_map (λ r. r.items) draft.report) limits ≡ set_fault h.heads
   set_is =
-      ap (λ d. verdict d draft.config.items (is_some draft.report) limits) h.holds.device
-      ∙ ap (λ c. verdict (parts_of h.heads).device c (is_some draft.report) limits) h.holds.config
-      ∙ ap (λ r. verdict (parts_of h.heads).device (parts_of h.heads).config r limits) (some_is draft.report ∙ ap is_some h.holds.report)
+      ap (λ d. verdict d draft.config.items (option_map (λ r. r.items) draft.report) limits) h.holds.device
+      ∙ ap (λ c. verdict (parts_of h.heads).device c (option_map (λ r. r.items) draft.report) limits) h.holds.config
+      ∙ ap (λ r. verdict (parts_of h.heads).device (parts_of h.heads).config r limits) h.holds.report
 
-  pub accepted : is_whole h.heads ≡ true → verdict draft.device.items draft.config.items (is_some draft.report) limits ≡ None → IsAccepted h.heads
+  pub accepted : is_whole h.heads ≡ true → verdict draft.device.items draft.config.items (option_map (λ r. r.items) draft.report) limits ≡ None → IsAccepted h.heads
   accepted whole ok = record { lines = h.lines; whole = whole; set = sym set_is ∙ ok }
 
   pub set_shows : (set : Set) → set ≡ record {
@@ -231,7 +225,7 @@ module _ (draft : Draft) (left left' : Option (List ℕ)) (new : Lines) (h : Hea
     ),
   )
 
-  pub set_ends : (fault : SetFault) → is_whole h.heads ≡ true → verdict draft.device.items draft.config.items (is_some draft.report) limits ≡ Some fault
+  pub set_ends : (fault : SetFault) → is_whole h.heads ≡ true → verdict draft.device.items draft.config.items (option_map (λ r. r.items) draft.report) limits ≡ Some fault
       → Ends (status.BadSet fault.rule fault.at) regs no_ways
   set_ends fault whole broken = (
     told left left' g.got (λ input. RefusesSet input (record { rule = fault.rule; at = fault.at })) g.reads (record {
@@ -244,7 +238,7 @@ module _ (draft : Draft) (left left' : Option (List ℕ)) (new : Lines) (h : Hea
     nothing,
   )
 
-  pub memory_ends : is_whole h.heads ≡ true → verdict draft.device.items draft.config.items (is_some draft.report) limits ≡ None
+  pub memory_ends : is_whole h.heads ≡ true → verdict draft.device.items draft.config.items (option_map (λ r. r.items) draft.report) limits ≡ None
       → Ends status.NoMemory regs no_ways
   memory_ends whole ok = (
     told left left' g.got HasHead g.reads (record {

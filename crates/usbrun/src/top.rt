@@ -1,4 +1,4 @@
-ghost use Rattle.std.specs.Prelude.{◌≡◌, ◌≤◌, ◌<◌, ◌+◌, ◌^◌, ◌↔◌, None, Some, true, false, map, length, is_some, IsTrue, IfOk, IfErr};
+ghost use Rattle.std.specs.Prelude.{◌≡◌, ◌≤◌, ◌<◌, ◌+◌, ◌^◌, ◌↔◌, None, Some, true, false, map, length, IsTrue, IfOk, IfErr};
 ghost use Rattle.std.specs.Option.{option_map};
 ghost use Rattle.usb_descriptor.specs.Strings.{Ascend, string_descriptor};
 ghost use Rattle.usb_descriptor.specs.Verdict.{verdict};
@@ -168,8 +168,8 @@ fn run_device<S: Source, K: Sink, T: Sink>(
 fn set_of(draft: &Draft) -> Result<DescSet, SetFault>
     requires few { length draft.now.strings.items ≤ 8 }
     requires ascending { Ascend 1 draft.now.strings.items }
-    ensures refused { IfErr result (λ fault. verdict draft.now.device.items draft.now.config.items (is_some draft.now.report) limits ≡ Some fault) }
-    ensures accepted { IfOk result (λ _. verdict draft.now.device.items draft.now.config.items (is_some draft.now.report) limits ≡ None) }
+    ensures refused { IfErr result (λ fault. verdict draft.now.device.items draft.now.config.items (option_map (λ r. r.items) draft.now.report) limits ≡ Some fault) }
+    ensures accepted { IfOk result (λ _. verdict draft.now.device.items draft.now.config.items (option_map (λ r. r.items) draft.now.report) limits ≡ None) }
     ensures shows { IfOk result (λ set. set ≡ record {
       device = draft.now.device.items;
       config = draft.now.config.items;

@@ -5,5 +5,5 @@ use Rattle.usb_descriptor.proofs.verdict.first_fault.Given as goal
 -- no rule so far is broken
 abbrev pub invariant-loop-rule : goal.invariant-loop-rule
 invariant-loop-rule l =
-    first_fault (rule_fault l.limits l.row l.left l.claimed l.reports) (drop l.rule-index rules)
-    ≡ first_fault (rule_fault l.limits l.row l.left l.claimed l.reports) rules
+    first_fault (rule_fault l.limits l.row l.left l.claimed l.wrong_report) (drop l.rule-index rules)
+    ≡ first_fault (rule_fault l.limits l.row l.left l.claimed l.wrong_report) rules
