@@ -61,9 +61,9 @@ group_owner row n =
 abbrev pub is_built : Owner → Bool
 is_built Core = true
 is_built Cdc = true
-is_built Hid = false
+is_built Hid = true
 is_built Msc = false
-is_built Midi = false
+is_built Midi = true
 
 -- the owner of the interface of a number, where a test says which classes are built
 abbrev pub owner_by : (Owner → Bool) → List Descriptor → ℕ → Owner

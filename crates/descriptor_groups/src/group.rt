@@ -105,7 +105,7 @@ pub fn group_owner(row: &[Descriptor], number: u8) -> Owner
 pub fn is_built(class: Owner) -> bool
     ensures { result ≡ is_built class }
 {
-    matches!(class, Owner::Core | Owner::Cdc)
+    !matches!(class, Owner::Msc)
 }
 
 /// The owner of the interface with a number: the class whose group has it, where that is built; else the core.

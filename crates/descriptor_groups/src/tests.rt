@@ -41,11 +41,11 @@ const CONFIGS: [(&[u8], &[Owner]); 4] = [
     ),
 ];
 
-/// Whom an interface of a group belongs to: of all classes the serial port alone is built.
+/// Whom an interface of a group belongs to: of all classes mass storage alone isn't built.
 fn built(owner: Owner) -> Owner {
     match owner {
-        Owner::Cdc => Owner::Cdc,
-        Owner::Core | Owner::Hid | Owner::Msc | Owner::Midi => Owner::Core,
+        Owner::Msc => Owner::Core,
+        Owner::Core | Owner::Cdc | Owner::Hid | Owner::Midi => owner,
     }
 }
 

@@ -32,7 +32,9 @@ impl DeviceClasses {
     {
         match call {
             DevCall::Cdc(call) => self.serial.answer(pipes, call, bytes),
-            DevCall::State | DevCall::Hid(_) | DevCall::Msc(_) | DevCall::Midi(_) => Said::Closed,
+            DevCall::Hid(call) => self.human.answer(pipes, call, bytes),
+            DevCall::Midi(call) => self.music.answer(pipes, call, bytes),
+            DevCall::State | DevCall::Msc(_) => Said::Closed,
         }
     }
 

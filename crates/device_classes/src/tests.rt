@@ -91,7 +91,7 @@ fn an_owner_works_its_own_pipes(rt: HostRuntime) {
     let mut pipes = MemoryPipes::new();
     begin(&mut classes);
     pipes.open();
-    for owner in [Owner::Core, Owner::Hid, Owner::Msc, Owner::Midi] {
+    for owner in [Owner::Core, Owner::Msc] {
         classes.work(owner, &mut pipes);
     }
     assert!(rt; pipes.phase(0) == Phase::Rest && pipes.phase(1) == Phase::Rest);
@@ -99,20 +99,46 @@ fn an_owner_works_its_own_pipes(rt: HostRuntime) {
     assert!(rt; pipes.phase(0) == Phase::Running && pipes.phase(1) == Phase::Running);
 }
 
+// No class is there for the core and for mass storage. A class without endpoints has closed pipes.
 #[test]
 fn calls_of_others_are_closed(rt: HostRuntime) {
     let set = serial().expect(&rt, "accepted");
     let mut classes = DeviceClasses::new(&set);
-    let mut pipes = MemoryPipes::new();
-    pipes.open();
-    let calls = [
-        DevCall::State,
-        DevCall::Hid(HidDeviceCall::Take),
-        DevCall::Msc(MscDeviceCall::Eject),
-        DevCall::Midi(MidiCall::Recv(1)),
-    ];
     let mut bytes = ArrayVec::new();
-    for call in &calls {
+    let mut pipes = MemoryPipes::new();
+    for call in &[
+        DevCall::Hid(HidDeviceCall::Take),
+        DevCall::Midi(MidiCall::Recv(1)),
+    ] {
         assert!(rt; matches!(classes.answer(&mut pipes, call, &mut bytes), Said::Closed));
     }
+    pipes.open();
+    for call in &[DevCall::State, DevCall::Msc(MscDeviceCall::Eject)] {
+        assert!(rt; matches!(classes.answer(&mut pipes, call, &mut bytes), Said::Closed));
+    }
+}
+
+// The set has no report descriptor: no report has its length. The MIDI port takes a real-time byte, and starts its event.
+#[test]
+fn reports_and_music_are_their_classes(rt: HostRuntime) {
+    let set = serial().expect(&rt, "accepted");
+    let mut classes = DeviceClasses::new(&set);
+    let mut pipes = MemoryPipes::new();
+    pipes.open();
+    let mut report = ArrayVec::new();
+    report.push(0);
+    let call = DevCall::Hid(HidDeviceCall::Report(report));
+    assert!(rt; matches!(classes.call(&mut pipes, &call), Reply::BadLength));
+    assert!(rt;
+        matches!(
+            classes.call(&mut pipes, &DevCall::Hid(HidDeviceCall::Idle)),
+            Reply::Idle(0, 1)
+        )
+    );
+    let mut stream = ArrayVec::new();
+    stream.push(0xf8);
+    let call = DevCall::Midi(MidiCall::Send(stream));
+    assert!(rt; matches!(classes.call(&mut pipes, &call), Reply::Took(1)));
+    classes.work(Owner::Midi, &mut pipes);
+    assert!(rt; pipes.phase(0) == Phase::Running && pipes.phase(1) == Phase::Running);
 }

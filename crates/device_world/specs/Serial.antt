@@ -12,24 +12,24 @@ use Rattle.device_line.specs.declared.call.DevCall.{DevCall}
 use Rattle.device_line.specs.declared.call.DevCall.TheVariants as call
 use Rattle.device_owners.specs.Calls.{Calls}
 use Rattle.cdc_device_machine.specs.Port as cdc
-use Rattle.device_world.specs.State.{State, Absent, Serial}
+use Rattle.device_world.specs.State.{State, Serial}
 
 -- the serial port with another state of its port
 abbrev pub with_port : State → (cdc.Serial → cdc.Port) → State
 with_port (Serial serial) f = Serial (record serial { port = f serial })
-with_port Absent f = Absent
+with_port s f = s
 
 abbrev pub decides : State → Setup → Decision
 decides (Serial serial) setup = cdc.decided serial.interface serial.port setup
-decides Absent setup = decision.Stall
+decides s setup = decision.Stall
 
 abbrev pub accepts : State → List ℕ → Bool
 accepts (Serial serial) bytes = cdc.accepts bytes
-accepts Absent bytes = false
+accepts s bytes = false
 
 abbrev pub pipes_after_work : State → Own → Own
 pipes_after_work (Serial serial) own = cdc.pipes_after_work serial.port own
-pipes_after_work Absent own = own
+pipes_after_work s own = own
 
 abbrev pub serial_rules : Rules State
 serial_rules = record {
@@ -50,7 +50,7 @@ serial_rules = record {
 
 abbrev pub serial_reply : State → Own → CdcDeviceCall → Reply
 serial_reply (Serial serial) own c = cdc.call_reply serial.port own c
-serial_reply Absent own c = reply.Closed
+serial_reply s own c = reply.Closed
 
 abbrev pub call_reply : State → Own → DevCall → Reply
 call_reply s own (call.Cdc c) = serial_reply s own c
@@ -61,7 +61,7 @@ call_reply s own (call.Midi c) = reply.Closed
 
 abbrev pub serial_pipes : State → Own → CdcDeviceCall → Own
 serial_pipes (Serial serial) own c = cdc.pipes_after_call serial.interface own c
-serial_pipes Absent own c = own
+serial_pipes s own c = own
 
 abbrev pub pipes_after_call : State → Own → DevCall → Own
 pipes_after_call s own (call.Cdc c) = serial_pipes s own c
