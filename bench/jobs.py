@@ -4,6 +4,8 @@
     enumeration    an enumeration again and again
     received       a serial port takes packets of 64 bytes, and its application reads them
     sent           its application writes 64 bytes, and the host gets them with the empty packet behind them
+    reports        a keyboard sends a report of 8 bytes, and the host gets it
+    music          a MIDI port takes a packet of 16 events, its application reads them and sends the bytes of 16 more
 
 Handler runs and tasks come only where they have something to do, so that idle ones don't make a line look cheap.
 """
@@ -15,6 +17,17 @@ PLAIN = DEVICE + "config 0902120001010080320904000000ff000000\nbegin\n"
 SERIAL = (
     DEVICE
     + "config 09023500020100803209040000010202000005240600010705810310001009040100020a0000000705020240000007058202400000\n"
+    + "begin\n"
+)
+KEYBOARD = (
+    DEVICE
+    + "config 090222000101008032090400000103010100092111010001223f000705810308000a\n"
+    + "report 05010906a101050719e029e71500250175019508810295017508810195057501050819012905910295017503910195067508150025650507190029658100c0\n"
+    + "begin\n"
+)
+MIDI = (
+    DEVICE
+    + "config 0902350001010080320904000002010300000724010001230009050102400000000005250101010905820240000000000525010101\n"
     + "begin\n"
 )
 RESET = "reset\nirq\n"
@@ -45,8 +58,21 @@ ENUMERATION = (
 RECEIVED = "".join(f"out 1 2 {toggle} {BYTES} ok\nirq\ntask\ncdc read 64\n" for toggle in (0, 1))
 SENT = f"cdc write {BYTES}\ncdc flush\nirq\nin 1 2 ok\nirq\ntask\nirq\nin 1 2 ok\nirq\ntask\n"
 
+REPORTS = "hid report 0000040000000000\nirq\nin 1 1 ok\nirq\ntask\n"
+NOTES = bytes([9, 0x90, 60, 127] * 16).hex()
+CHORD = (bytes([0x90]) + bytes([60, 127] * 16)).hex()
+MUSIC = "".join(
+    f"out 1 1 {toggle} {NOTES} ok\nirq\ntask\nmidi recv 16\nmidi send {CHORD}\ntask\nirq\nin 1 2 ok\nirq\ntask\n" for toggle in (0, 1)
+)
+
 # the lines before the rounds, and those of a round
-JOBS = {"enumeration": (PLAIN, ENUMERATION), "received": (SERIAL + SESSION, RECEIVED), "sent": (SERIAL + SESSION, SENT)}
+JOBS = {
+    "enumeration": (PLAIN, ENUMERATION),
+    "received": (SERIAL + SESSION, RECEIVED),
+    "sent": (SERIAL + SESSION, SENT),
+    "reports": (KEYBOARD + SESSION, REPORTS),
+    "music": (MIDI + SESSION, MUSIC),
+}
 
 first, each = JOBS[sys.argv[1]]
 sys.stdout.write(first)

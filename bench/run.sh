@@ -19,6 +19,18 @@ fi
 # What the program does with the register lines, under these words.
 named() { if [ "$*" = device ]; then echo "register lines dropped"; else echo "register lines shown"; fi; }
 
+# Whether a job takes no more than its target, where it has one.
+judged() {
+    local most=${TARGETS[$1]-}
+    if [ -z "$most" ]; then
+        echo "no target"
+    elif [ "$2" -gt "$most" ]; then
+        echo "target at most $most: missed"
+    else
+        echo "target at most $most: met"
+    fi
+}
+
 # Instructions a line of a job of so many lines, under these words.
 instructions() {
     local lines=$1
@@ -28,13 +40,11 @@ instructions() {
 }
 
 if command -v valgrind >/dev/null 2>&1; then
-    for kind in enumeration received sent; do
+    for kind in enumeration received sent reports music; do
         python3 "$top/bench/jobs.py" "$kind" 100000 >"$work/job"
         lines=$(wc -l <"$work/job")
         dropped=$(instructions "$lines" device)
-        verdict=missed
-        [ "$dropped" -gt "${TARGETS[$kind]}" ] || verdict=met
-        echo "$kind: instructions a line over $lines lines, $(named device): $dropped; target at most ${TARGETS[$kind]}: $verdict"
+        echo "$kind: instructions a line over $lines lines, $(named device): $dropped; $(judged "$kind" "$dropped")"
         echo "$kind: instructions a line over $lines lines, $(named device --regs): $(instructions "$lines" device --regs)"
     done
 else
@@ -45,7 +55,7 @@ if [ ! -x /usr/bin/time ]; then
     echo "SKIPPED seconds and memory: there is no /usr/bin/time"
     exit 0
 fi
-for kind in enumeration received sent; do
+for kind in enumeration received sent reports music; do
     for about in 1000 1000000; do
         python3 "$top/bench/jobs.py" "$kind" "$about" >"$work/job"
         lines=$(wc -l <"$work/job")

@@ -13,7 +13,7 @@ from program_run import outcome
 
 SERVED = (
     *("row01a", "row01b", "row02", "row03a", "row03b", "row04", "row05", "row06", "row07", "row08", "row09a", "row09b"),
-    *("row10", "row11", "row12a", "row25a", "row25b", "row25c"),
+    *("row10", "row11", "row12a", "row17", "row19", "row25a", "row25b", "row25c"),
 )
 
 

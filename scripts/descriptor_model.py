@@ -162,7 +162,7 @@ class Items:
 
 
 def report_lengths(report):
-    """The bytes of the input and the output report of each id, without the id's own, or None where they can't be told."""
+    """The bytes of the input, output and feature report of each id, without the id's own, or None where they can't be told."""
     items, at = Items(), 0
     while at < len(report):
         prefix = report[at]
@@ -175,7 +175,7 @@ def report_lengths(report):
         at += 1 + size
     if items.open:
         return None
-    return {n: ((bits[INPUT] + 7) // 8, (bits[OUTPUT] + 7) // 8) for n, bits in items.bits.items()}
+    return {n: tuple((bits[tag] + 7) // 8 for tag in (INPUT, OUTPUT, FEATURE)) for n, bits in items.bits.items()}
 
 
 def fits(endpoint, number, length):

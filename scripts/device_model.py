@@ -1,14 +1,16 @@
 """A device as a host and its own software see it, by docs/MODEL.md, with no code of the crates."""
 
-from descriptor_model import first, grouped, hid_descriptor, is_in, kind, left_of, row_of, serial_group, INTERRUPT
+from descriptor_model import first, grouped, hid_descriptor, is_in, kind, left_of, report_lengths, row_of, serial_group
+from music_model import MusicPort
 from pipe_model import InPipe, OutPipe
+from report_model import HumanInterface
 from serial_model import SerialPort
 
 PACKET = 64
 MOST_UNSERVED = 3
 LANGUAGES = b"\x04\x03\x09\x04"
 # the classes that the program drives; the endpoints of the others are the core's
-DRIVEN = frozenset({"cdc"})
+DRIVEN = frozenset({"cdc", "hid", "midi"})
 
 
 class Device:
@@ -16,23 +18,29 @@ class Device:
         self.device, self.config, self.strings, self.report = device, config, strings, report
         _, self.interfaces = grouped(left_of(row_of(config)[0]))
         group = first(self.interfaces, 3) if "hid" in DRIVEN else None
-        self.hid = group.data[2] if group else None
+        self.reports_at = group.data[2] if group else None
         self.sizes = {e[2]: e[4] for i in self.interfaces for _, e in i.endpoints}
         self.classes, self.owners = {}, {}
-        if "cdc" in DRIVEN:
-            self.drive_serial(serial_group(self.interfaces))
+        self.drive()
         self.pipes, self.dropped = {}, set()
         self.session = self.awake = self.was_reset = False
         self.clear()
 
-    def drive_serial(self, group):
-        """The class of each interface that is driven, and of each of its endpoints."""
-        if group is None:
-            return
-        port = SerialPort(group[0].data[2])
+    def drive(self):
+        """The class of each interface that is driven, in the order of their work."""
+        serial, human, music = serial_group(self.interfaces), first(self.interfaces, 3), first(self.interfaces, 1, 3)
+        if "cdc" in DRIVEN and serial:
+            self.own(SerialPort(serial[0].data[2]), serial)
+        if "hid" in DRIVEN and human:
+            self.own(HumanInterface(report_lengths(self.report)), [human])
+        if "midi" in DRIVEN and music:
+            self.own(MusicPort(), [music])
+
+    def own(self, owner, group):
+        """The interfaces of a class, and their endpoints."""
         for interface in group:
-            self.classes[interface.data[2]] = port
-            self.owners.update({e[2]: port for _, e in interface.endpoints})
+            self.classes[interface.data[2]] = owner
+            self.owners.update({e[2]: owner for _, e in interface.endpoints})
 
     def works(self):
         return dict.fromkeys(self.classes.values())
@@ -54,19 +62,21 @@ class Device:
             each.opened(self.pipes_of(each))
 
     def pipe(self, e):
-        room = SerialPort.ROOM["notices" if kind(e) == INTERRUPT else "data"]
+        room = self.owners[e[2]].room(kind(e))
         if is_in(e):
             return InPipe(e[4], room)
         stale = e[2] in self.dropped
         self.dropped.discard(e[2])
         return OutPipe(e[4], room, stale)
 
-    def pipes_of(self, port):
-        """Its pipe for the host, the one from the host, and the one for notifications."""
-        ends = {a: p for a, p in self.pipes.items() if self.owners[a] is port}
-        control = {e[2] for _, e in self.interfaces[port.interface].endpoints}
+    def pipes_of(self, owner):
+        """Its pipe for the host, the one from the host, and the one for notifications, None where it has none."""
+        ends = {a: p for a, p in self.pipes.items() if self.owners[a] is owner}
+        control = set()
+        if isinstance(owner, SerialPort):
+            control = {e[2] for _, e in self.interfaces[owner.interface].endpoints}
         inward = next(p for a, p in ends.items() if a >= 128 and a not in control)
-        return inward, next(p for a, p in ends.items() if a < 128), next(p for a, p in ends.items() if a in control)
+        return inward, next((p for a, p in ends.items() if a < 128), None), next((p for a, p in ends.items() if a in control), None)
 
     def clear(self):
         self.end_session()
@@ -76,7 +86,7 @@ class Device:
         self.taken = False
         self.note = None
         self.setup_note = None
-        self.to_come, self.taking = [], None
+        self.to_come, self.taking, self.control = [], None, None
         self.new_address = None
         self.toggle = 1
 
@@ -87,17 +97,21 @@ class Device:
     def state(self):
         return f"state {self.address} {int(self.session)}"
 
-    def cdc(self, verb, *values):
-        port = next((each for each in self.works() if isinstance(each, SerialPort)), None)
-        return "closed" if port is None or not self.session else port.call(verb, *values)
+    def asked(self, sort, *call):
+        """The answer to a call of a class."""
+        owner = next((each for each in self.works() if isinstance(each, sort)), None)
+        return "closed" if owner is None or not self.session else owner.call(*call)
+
+    def cdc(self, *call):
+        return self.asked(SerialPort, *call)
 
     def hid(self, *call):
-        return "closed"
-
-    def msc(self, *call):
-        return "closed"
+        return self.asked(HumanInterface, *call)
 
     def midi(self, *call):
+        return self.asked(MusicPort, *call)
+
+    def msc(self, *call):
         return "closed"
 
     def reset(self):
@@ -153,6 +167,7 @@ class Device:
     def start(self, setup):
         value, length = int.from_bytes(setup[2:4], "little"), int.from_bytes(setup[6:], "little")
         owner = self.class_of(setup)
+        self.control = self.recipient(setup)
         data = owner.request(setup) if owner else self.request(tuple(setup[:2]), value, setup[4])
         if data is None:
             self.side = "stall"
@@ -170,6 +185,10 @@ class Device:
     def class_of(self, setup):
         """The class that decides a request: in a session that of the interface which a class request names."""
         return self.classes.get(setup[4]) if self.session and setup[0] in (0x21, 0xA1) else None
+
+    def recipient(self, setup):
+        """The class whose interface or endpoint a request names, None where that is the core."""
+        return {1: self.classes, 2: self.owners}.get(setup[0] & 31, {}).get(setup[4])
 
     def halts(self, address, halted):
         """Halts an endpoint, or clears its halt."""
@@ -201,7 +220,7 @@ class Device:
             return "status"
         if asked == (0x80, 6):
             return self.descriptor(value)
-        if asked == (0x81, 6) and interface and index == self.hid:
+        if asked == (0x81, 6) and interface and index == self.reports_at:
             return self.hid_descriptor(value)
         if asked == (0x80, 8):
             return bytes([self.config[5] if self.session else 0])

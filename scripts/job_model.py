@@ -10,7 +10,7 @@ import re
 import sys
 
 from descriptor_model import fault_of
-from device_model import DRIVEN, PACKET, Device
+from device_model import PACKET, Device
 
 MOST_LINE = 8400
 
@@ -42,16 +42,22 @@ SCHEDULE = {
     b"out": [ADDRESS, ENDPOINT, (5, number, 0, 1), (6, data, 0, PACKET), FATE],
     b"in": [ADDRESS, ENDPOINT, (7, choice, b"ok", b"noack")],
 }
-SERIAL = {
+CALLS = {
     b"cdc write": [(6, data, 1, 1024)],
     b"cdc read": [(5, number, 1, 1024)],
     b"cdc flush": [],
     b"cdc avail": [],
     b"cdc line": [],
     b"cdc notify": [(5, number, 0, 65535)],
+    b"hid report": [(6, data, 1, 64)],
+    b"hid take": [],
+    b"hid set": [],
+    b"hid idle": [],
+    b"midi send": [(6, data, 1, 1024)],
+    b"midi recv": [(5, number, 1, 1024)],
+    b"midi bytes": [(5, number, 1, 1024)],
 }
-if "cdc" in DRIVEN:
-    SCHEDULE.update(SERIAL)
+SCHEDULE.update(CALLS)
 HEAD = {
     b"device": [(6, data, 1, 64)],
     b"config": [(6, data, 1, 600)],
@@ -134,6 +140,16 @@ def expected(job):
     if fault is not None:
         return 3, b"", "usbrun: set rule {} at {}\n".format(*fault).encode()
     return run(Device(head.device, head.config, head.strings, head.report), lines, at)
+
+
+def device_of(job):
+    """The device of a job whose head is one."""
+    head = Head()
+    for line in job.split(b"\n"):
+        read = read_line(line, HEAD)
+        head.add(*read)
+        if read[0] == "begin":
+            return Device(head.device, head.config, head.strings, head.report)
 
 
 def run(device, lines, start):

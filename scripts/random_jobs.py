@@ -8,17 +8,23 @@ trace has to be a run of a model of the controller's registers. A run has 60 sec
     random_jobs.py PROGRAM [JOBS [SEED]]
 
 A quarter of the jobs have some bytes changed, so that most of these are refused, and a quarter a set that may be one
-that isn't accepted. A job that ends with status 0 and whose device has a serial port is run twice more: without the port's lines,
-and without the lines of the device's other endpoints and its calls. What is left has to be answered as before. The status is 1 where
-a run differs; the first job that does is printed.
+that isn't accepted. A job that ends with status 0 and whose device has classes is run again without the lines of each owner: without
+its calls and the packets on its endpoints, the core's among them. What is left has to be answered as before. The status is 1 where a
+run differs; the first job that does is printed.
 """
 import random
 import sys
 
+from descriptor_model import fault_of, first, grouped, left_of, report_lengths, row_of, serial_group
 from device_model import PACKET
-from job_model import expected, schedule_of
+from job_model import device_of, expected, schedule_of
+from music_model import MusicPort
 from program_run import outcome
 from register_model import Trace, check_trace
+from report_model import HumanInterface
+from serial_model import SerialPort
+
+CLASSES = {"cdc": SerialPort, "hid": HumanInterface, "midi": MusicPort}
 
 
 def random_interface(rng, number_, free, sound):
@@ -71,12 +77,25 @@ def hid(rng, number_, free, sound):
     return bytes([9, 4, number_, 0, len(ends), 3, 0, 0, 0]) + described + pipes, report
 
 
+def music(rng, number_, free):
+    """A MIDI streaming interface with an endpoint in each direction (USB MIDI 1.0, 6), or nothing."""
+    ends = [next((a for a in free if a & 128 == way), None) for way in (0, 128)]
+    if None in ends or rng.random() < 0.7:
+        return b""
+    for address in ends:
+        free.remove(address)
+    sized = [bytes([9, 5, address, 2, 64, 0, 0, 0, 0, 5, 0x25, 1, 1, 1]) for address in ends]
+    return bytes([9, 4, number_, 0, 2, 1, 3, 0, 0]) + b"".join(sized)
+
+
 def random_config(rng, sound):
     """A configuration of up to five interfaces, and its report descriptor, where there is one. A sound one is of an accepted set."""
     body, count, free = b"", 0, [1, 2, 3, 0x81, 0x82, 0x83]
     if rng.random() < 0.4:
         body, count, free = serial_port(0), 2, [1, 2, 0x81]
     interface, report = hid(rng, count, free, sound)
+    body, count = body + interface, count + (interface != b"")
+    interface = music(rng, count, free)
     body, count = body + interface, count + (interface != b"")
     for _ in range(rng.choice([0, 1, 1, 2, 3])):
         body += random_interface(rng, count, free, sound)
@@ -147,24 +166,33 @@ def likely_setup(rng, config):
     return bytes([kind, request]) + b"".join(n.to_bytes(2, "little") for n in (value, index, length))
 
 
+def owners_of(config):
+    """The interface number and the endpoints of each class that a configuration has."""
+    _, interfaces = grouped(left_of(row_of(config)[0]))
+    groups = {"cdc": serial_group(interfaces), "hid": first(interfaces, 3), "midi": first(interfaces, 1, 3)}
+    groups["hid"], groups["midi"] = ([groups[name]] if groups[name] else None for name in ("hid", "midi"))
+    ends = {name: [e[2] for i in group for _, e in i.endpoints] for name, group in groups.items() if group}
+    return {name: (groups[name][0].data[2], all_) for name, all_ in ends.items()}
+
+
 class Lines:
     """Random lines of a schedule, most of them at the address that the device may have."""
 
-    def __init__(self, rng, config):
-        self.rng, self.config = rng, config
+    def __init__(self, rng, config, report, owners):
+        self.rng, self.config, self.owners = rng, config, owners
         self.weights = [rng.random() * most for most in (0.1, 1.5, 1.5, 1, 1, 1.5, 0.5)]
         self.control_share = rng.choice([0.5, 0.85, 0.85])
         self.stray_share = rng.choice([0, 0.02, 0.1, 0.3])
         self.likely_share = rng.choice([0.1, 0.5, 0.9])
         self.address = 0
         self.lines = []
-        self.is_serial = config[9:].startswith(serial_port(0)[:9])
-        self.toggle = 0
+        self.lengths = report_lengths(report or b"") or {}
+        self.toggles = {}
 
     def next(self):
         rng = self.rng
-        if self.is_serial and rng.random() < 0.2:
-            return self.serial_call()
+        if self.owners and rng.random() < 0.2:
+            return self.call(rng.choice(list(self.owners)))
         kind = rng.choices(["reset", "irq", "task", "setup", "out", "in", "state"], self.weights)[0]
         address = self.address if rng.random() < 0.95 else rng.choice([0, 1, 2, rng.randrange(128)])
         endpoint = 0 if rng.random() < self.control_share else rng.randrange(5)
@@ -220,17 +248,35 @@ class Lines:
             setup = bytes([0, request, value]) + bytes(5)
             self.put(f"setup {{}} {setup.hex()} ok", "irq", "task", "irq", "in {} 0 ok", "irq", "task")
             self.address = value if request == 5 else self.address
-        self.toggle = 0
+        self.toggles = {}
         for _ in range(self.rng.choice([1, 3, 10])):
             self.put(self.data_token())
             if self.rng.random() < 0.3:
                 self.control(self.request())
-            if self.is_serial:
-                self.serial_turn()
+            for name in self.rng.sample(list(self.owners), len(self.owners)):
+                self.class_turn(name)
                 if self.rng.random() < 0.2:
-                    self.serial_requests()
+                    getattr(self, name + "_requests", lambda: None)()
 
-    def serial_call(self):
+    def call(self, name):
+        return getattr(self, name + "_call")()
+
+    def class_turn(self, name):
+        """Some of what an application, a host and a class do to each other: bytes either way, with handshakes that are lost."""
+        rng, ends = self.rng, self.owners[name][1]
+        outs, ins = [a for a in ends if a < 128], [a - 128 for a in ends if a >= 128]
+        if outs and rng.random() < 0.5:
+            toggle = self.toggles.get(outs[0], 0)
+            packet = f"out {{}} {outs[0]} {toggle} {getattr(self, name + '_packet')().hex() or '-'} ok"
+            self.put(*[packet] * rng.choice([1, 1, 1, 2]))
+            self.toggles[outs[0]] = toggle ^ (rng.random() < 0.95)
+        elif ins:
+            self.put(self.call(name), *rng.choice([[], ["cdc flush"] if name == "cdc" else ["task"]]), "irq")
+            self.put(*(f"in {{}} {rng.choice(ins)} {rng.choice(['ok', 'ok', 'noack'])}" for _ in range(rng.choice([1, 2, 5]))))
+        self.turn()
+        self.put(*rng.choice([[], [self.call(name)], [{"cdc": "cdc read 1024", "hid": "hid take", "midi": "midi bytes 1024"}[name]]]))
+
+    def cdc_call(self):
         rng = self.rng
         verb = rng.choice(["write", "write", "read", "read", "flush", "flush", "avail", "line", "notify"])
         if verb == "write":
@@ -239,33 +285,72 @@ class Lines:
             return f"cdc read {rng.choice([1, 2, 63, 64, 65, 128, 256, 1024])}"
         return f"cdc notify {rng.choice([0, 1, 3, 64, 65535])}" if verb == "notify" else f"cdc {verb}"
 
-    def serial_turn(self):
-        """Some of what an application, a host and the port do to each other: bytes either way, with handshakes that are lost."""
-        rng = self.rng
-        if rng.random() < 0.5:
-            size = rng.choice([0, 1, 8, 63, PACKET, PACKET, PACKET])
-            packet = f"out {{}} 3 {self.toggle} {rng.randbytes(size).hex() or '-'} ok"
-            self.put(*[packet] * rng.choice([1, 1, 1, 2]))
-            self.toggle ^= rng.random() < 0.95
-        else:
-            self.put(self.serial_call(), *rng.choice([[], ["cdc flush"]]), "irq")
-            self.put(*(f"in {{}} {rng.choice([2, 2, 3])} {rng.choice(['ok', 'ok', 'noack'])}" for _ in range(rng.choice([1, 2, 5]))))
-        self.turn()
-        self.put(*rng.choice([[], [self.serial_call()], ["cdc read 1024"]]))
+    def cdc_packet(self):
+        return self.rng.randbytes(self.rng.choice([0, 1, 8, 63, PACKET, PACKET, PACKET]))
 
-    def serial_requests(self):
+    def cdc_requests(self):
         """A line coding, which may be one that is refused, and other requests to the port."""
         rng = self.rng
         coding = rng.randrange(2**32).to_bytes(4, "little") + bytes(rng.choice(c) for c in ((0, 1, 2, 3), (0, 4, 5), (5, 8, 16, 9)))
         coding = coding[: rng.choice([7, 7, 7, 7, 6, 0])] + b"\0" * rng.choice([0, 0, 0, 0, 1])
         port = rng.choice(["00", "00", "00", "01"])
-        self.put(f"setup {{}} 21200000{port}000700 ok")
-        self.turn()
-        self.put(f"out {{}} 0 {rng.choice([1, 1, 1, 0])} {coding.hex() or '-'} ok")
-        self.turn()
-        self.put("in {} 0 ok", "irq", "task")
+        self.give(bytes.fromhex(f"21200000{port}000700"), coding)
         for setup in rng.sample([f"a1210000{port}000700", f"2122{rng.randrange(4):02x}00{port}000000", "0203000082000000", "0201000082000000"], 2):
             self.control(bytes.fromhex(setup))
+
+    def give(self, setup, data):
+        """A request with data from the host."""
+        self.put(f"setup {{}} {setup.hex()} ok")
+        self.turn()
+        self.put(f"out {{}} 0 {self.rng.choice([1, 1, 1, 0])} {data.hex() or '-'} ok")
+        self.turn()
+        self.put("in {} 0 ok", "irq", "task")
+
+    def report(self, sort):
+        """The bytes of a report of a type with its id, mostly one that there is."""
+        rng = self.rng
+        number = rng.choice([*self.lengths, *self.lengths, 0, 1, 2])
+        length = self.lengths.get(number, (0, 0, 0))[sort - 1]
+        length = length if rng.random() < 0.85 else rng.choice([0, 1, 8, length + 1])
+        return number, (bytes([number]) if number else b"") + rng.randbytes(length)
+
+    def hid_call(self):
+        data = self.report(1)[1] or b"\0"
+        return self.rng.choice([f"hid report {data[:PACKET].hex()}"] * 3 + ["hid take", "hid take", "hid set", "hid idle"])
+
+    def hid_packet(self):
+        return self.rng.randbytes(self.rng.choice([0, 1, 2, 8, 8, 9]))
+
+    def hid_requests(self):
+        """SET_REPORT, and other requests of HID 1.11, 7.2."""
+        rng, at = self.rng, self.owners["hid"][0]
+        sort = rng.choice([1, 2, 2, 3, 3])
+        number, data = self.report(sort)
+        said = len(data) if rng.random() < 0.85 else rng.choice([0, 1, 8, 64, 65])
+        self.give(bytes([0x21, 9, number, sort, at, 0, said, 0]), data[:PACKET])
+        asked = [
+            bytes([0xA1, 1, number, rng.choice([sort, 1, 2, 3]), at, 0, rng.choice([1, 8, 64]), 0]),
+            bytes([0xA1, rng.choice([2, 3]), 0, 0, at, 0, 1, 0]),
+            bytes([0x21, 10, 0, rng.choice([0, 1, 125]), at, 0, rng.choice([0, 0, 0, 1]), 0]),
+            bytes([0x21, 11, rng.choice([0, 1, 2]), 0, at, 0, 0, 0]),
+            bytes([0x81, 6, 0, rng.choice([0x21, 0x22]), at, 0, rng.choice([9, 12, 255]), 0]),
+        ]
+        for setup in rng.sample(asked, 2):
+            self.control(setup)
+
+    def midi_call(self):
+        rng = self.rng
+        verb = rng.choice(["send", "send", "recv", "bytes"])
+        if verb != "send":
+            return f"midi {verb} {rng.choice([1, 2, 16, 1024])}"
+        heads = [0x90, 0xC0, 0xF0, 0xF1, 0xF2, 0xF3, 0xF6, 0xF7, 0xF7, 0xF8, 0xFF, *[None] * 20]
+        stream = bytes(rng.randrange(128) if (head := rng.choice(heads)) is None else head for _ in range(rng.choice([1, 3, 20, 200])))
+        return f"midi send {stream.hex()}"
+
+    def midi_packet(self):
+        rng = self.rng
+        data = b"".join(bytes([rng.randrange(16) + 16 * rng.choice([0, 0, 3]), *rng.randbytes(3)]) for _ in range(rng.choice([0, 1, 2, 16, 16])))
+        return data if rng.random() < 0.8 else data[: rng.randrange(PACKET)]
 
     def data_token(self):
         rng = self.rng
@@ -286,13 +371,14 @@ def random_job(rng, sound):
         report = b"\x06\x00"
     if report is not None:
         head.append(f"report {report.hex()}")
-    source, whole = Lines(rng, config), rng.choice([0.03, 0.15, 0.5])
+    owners = owners_of(config) if fault_of(device, config, report) is None else {}
+    source, whole = Lines(rng, config, report, owners), rng.choice([0.03, 0.15, 0.5])
     source.put("reset", "irq")
     length = rng.choice([3, 20, 60, 200])
     while len(source.lines) < length:
         if rng.random() < whole:
             source.control(source.request())
-        elif len(config) > 5 and rng.random() < (0.3 if source.is_serial else 0.05):
+        elif len(config) > 5 and rng.random() < (0.3 if source.owners else 0.05):
             source.session()
         else:
             source.lines.append(source.next())
@@ -332,38 +418,49 @@ def trace_of(program, job, answers):
     return check_trace(schedule_of(job), trace.decode(), answers.decode())
 
 
-def is_serial_line(line):
-    """Whether a line of a schedule is the serial port's alone: a call, or a packet on one of its endpoints."""
+def line_owner(owners, line):
+    """Whose a line of a schedule is alone: a call's class, the class of a packet's endpoint, or the core; None where all see it."""
     words = line.split(b" ")
-    ends = {b"out": (b"3",), b"in": (b"2", b"3")}
-    return words[0] == b"cdc" or (len(words) > 2 and words[2] in ends.get(words[0], ()))
+    if words[0] == b"state":
+        return "core"
+    if words[0] in (b"out", b"in") and words[2] != b"0":
+        address = int(words[2]) + (128 if words[0] == b"in" else 0)
+        return next((name for name, (_, ends) in owners.items() if address in ends), "core")
+    return words[0].decode() if words[0] in (b"cdc", b"hid", b"msc", b"midi") else None
 
 
-def is_core_line(line):
-    """Whether a line is a call of the core, or a packet on an endpoint that is neither endpoint 0 nor the port's."""
-    words = line.split(b" ")
-    return words[0] == b"state" or (words[0] in (b"out", b"in") and words[2] != b"0" and not is_serial_line(line))
+def stages_of(job, sort):
+    """Of each line of a job's schedule, whether it is a packet of a control transfer of a class."""
+    device, stages = device_of(job), []
+    for line in schedule_of(job):
+        mine = isinstance(device.control, sort) and line[0] in ("out", "in_") and line[2] == 0
+        stages.append(mine)
+        device.answer(line)
+    return stages
 
 
-def part_fault(program, job, answers, is_left_out):
-    """What differs where the lines of one owner are left out, or None."""
+def part_fault(program, job, answers, owners, name):
+    """What differs where the lines of one owner are left out, or None. What is told of its control transfers isn't compared."""
     lines, told = job.split(b"\n"), answers.split(b"\n")
-    first = lines.index(b"begin") + 1
-    kept = [at for at, line in enumerate(lines[first:]) if not is_left_out(line)]
-    short = b"\n".join(lines[:first] + [lines[first + at] for at in kept])
-    wanted = b"\n".join(told[at] for at in kept if at < len(told))
-    got = outcome([program, "device"], short)
-    return None if (got[0], got[1].strip(b"\n")) == (0, wanted.strip(b"\n")) else short
+    start = lines.index(b"begin") + 1
+    kept = [at for at, line in enumerate(lines[start:]) if line_owner(owners, line) != name]
+    short = b"\n".join(lines[:start] + [lines[start + at] for at in kept])
+    status, got, _ = outcome([program, "device"], short)
+    stages = stages_of(job, CLASSES[name]) if name in CLASSES else []
+    pairs = zip((at for at in kept if at < len(told)), got.split(b"\n"))
+    same = all(told[at] == answer or (at < len(stages) and stages[at]) for at, answer in pairs)
+    return None if status == 0 and same else short
 
 
-def has_port(job):
-    """Whether the device of a job has the serial port of these jobs."""
-    return serial_port(0)[:9].hex().encode() in job.split(b"begin")[0]
+def owners_in(job):
+    """The classes of the device of a job."""
+    line = next(line for line in job.split(b"\n") if line.startswith(b"config "))
+    return owners_of(bytes.fromhex(line[7:].decode()))
 
 
-def parts_fault(program, job, answers):
+def parts_fault(program, job, answers, owners):
     """The job without one owner's lines that is answered otherwise, or None."""
-    faults = (part_fault(program, job, answers, left_out) for left_out in (is_serial_line, is_core_line))
+    faults = (part_fault(program, job, answers, owners, name) for name in ("core", *owners))
     return next((fault for fault in faults if fault is not None), None)
 
 
@@ -389,13 +486,13 @@ def main():
             sys.stdout.buffer.write(job)
             print(f"the trace of job {count} differs: {wrong}")
             return 1
-        has_parts = got[0] == 0 and has_port(job)
-        fault = parts_fault(program, job, got[1]) if has_parts else None
+        owners = owners_in(job) if got[0] == 0 else {}
+        fault = parts_fault(program, job, got[1], owners) if owners else None
         if fault is not None:
             sys.stdout.buffer.write(job + b"\n-- without one owner's lines:\n" + fault)
             print(f"a part of job {count} is answered otherwise")
             return 1
-        parts += has_parts
+        parts += bool(owners)
         statuses[got[0]] = statuses.get(got[0], 0) + 1
     told = ", ".join(f"{count} with status {status}" for status, count in sorted(statuses.items()))
     print(f"random jobs: {jobs} of {jobs} agree ({told})")

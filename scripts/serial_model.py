@@ -1,5 +1,6 @@
 """A device's serial port, by docs/MODEL.md, with no code of the crates."""
 
+from descriptor_model import INTERRUPT
 from pipe_model import FULL
 
 CODING = (115200).to_bytes(4, "little") + bytes([0, 0, 8])
@@ -8,11 +9,12 @@ CODING = (115200).to_bytes(4, "little") + bytes([0, 0, 8])
 class SerialPort:
     """`interface` is the number of the communication interface. In a session `data_in`, `data_out` and `notices` are its pipes."""
 
-    ROOM = {"data": 256, "notices": 16}
-
     def __init__(self, interface):
         self.interface = interface
         self.closed()
+
+    def room(self, kind):
+        return 16 if kind == INTERRUPT else 256
 
     def closed(self):
         self.data_in = self.data_out = self.notices = None
