@@ -10,15 +10,13 @@ the same of standard error, whose faults change nothing. Each run has 60 seconds
 
 import os
 import pty
-import resource
-import signal
 import subprocess
 import sys
 import tempfile
 import tty
 
 from job_model import expected
-from program_run import LIMIT
+from program_run import LIMIT, stop_growth
 
 HEAD = b"device 1201000200000040feca0140000100000001\nconfig 0902120001010080320904000000ff000000\nbegin\n"
 LINES = b"reset\nirq\ntask\nstate\n"
@@ -35,12 +33,6 @@ class Lacking(Exception):
 def close(number):
     """What a new process does before it is the program: it has no such stream."""
     return lambda: os.close(number)
-
-
-def stop_growth():
-    """As `close`: a file that it writes has at most so many bytes, and a write past that fails."""
-    signal.signal(signal.SIGXFSZ, signal.SIG_IGN)
-    resource.setrlimit(resource.RLIMIT_FSIZE, (MOST, MOST))
 
 
 def ended(process):
@@ -105,7 +97,7 @@ def gone_reader(program):
 
 def limited_file(program):
     with tempfile.TemporaryFile() as out:
-        status, _, told = run(program, JOB, out=out, before=stop_growth)
+        status, _, told = run(program, JOB, out=out, before=lambda: stop_growth(MOST))
         out.seek(0)
         return status, out.read(), told
 

@@ -1,6 +1,7 @@
 """A device as a host and its own software see it, by docs/MODEL.md, with no code of the crates."""
 
 from descriptor_model import first, grouped, hid_descriptor, is_in, kind, left_of, report_lengths, row_of, serial_group
+from disk_model import MassStorage
 from music_model import MusicPort
 from pipe_model import InPipe, OutPipe
 from report_model import HumanInterface
@@ -10,12 +11,21 @@ PACKET = 64
 MOST_UNSERVED = 3
 LANGUAGES = b"\x04\x03\x09\x04"
 # the classes that the program drives; the endpoints of the others are the core's
-DRIVEN = frozenset({"cdc", "hid", "midi"})
+DRIVEN = {"cdc", "hid", "midi"}
+# those that have a model and that no program drives yet
+AHEAD = {"msc"}
+
+
+def words_left(words):
+    """A script's words without `--ahead`, which has the models drive the classes that no program drives yet."""
+    if "--ahead" in words:
+        DRIVEN.update(AHEAD)
+    return [word for word in words if word != "--ahead"]
 
 
 class Device:
-    def __init__(self, device, config, strings, report=None):
-        self.device, self.config, self.strings, self.report = device, config, strings, report
+    def __init__(self, device, config, strings, report=None, disk=None):
+        self.device, self.config, self.strings, self.report, self.disk = device, config, strings, report, disk
         _, self.interfaces = grouped(left_of(row_of(config)[0]))
         group = first(self.interfaces, 3) if "hid" in DRIVEN else None
         self.reports_at = group.data[2] if group else None
@@ -29,10 +39,13 @@ class Device:
     def drive(self):
         """The class of each interface that is driven, in the order of their work."""
         serial, human, music = serial_group(self.interfaces), first(self.interfaces, 3), first(self.interfaces, 1, 3)
+        storage = first(self.interfaces, 8, 6, 0x50)
         if "cdc" in DRIVEN and serial:
             self.own(SerialPort(serial[0].data[2]), serial)
         if "hid" in DRIVEN and human:
             self.own(HumanInterface(report_lengths(self.report)), [human])
+        if "msc" in DRIVEN and storage:
+            self.own(MassStorage(self.disk), [storage])
         if "midi" in DRIVEN and music:
             self.own(MusicPort(), [music])
 
@@ -97,9 +110,13 @@ class Device:
     def state(self):
         return f"state {self.address} {int(self.session)}"
 
+    def driven(self, sort):
+        """The class of this sort, or None."""
+        return next((each for each in self.works() if isinstance(each, sort)), None)
+
     def asked(self, sort, *call):
         """The answer to a call of a class."""
-        owner = next((each for each in self.works() if isinstance(each, sort)), None)
+        owner = self.driven(sort)
         return "closed" if owner is None or not self.session else owner.call(*call)
 
     def cdc(self, *call):
@@ -112,7 +129,9 @@ class Device:
         return self.asked(MusicPort, *call)
 
     def msc(self, *call):
-        return "closed"
+        """Its calls are of the medium, which is there without a session too."""
+        owner = self.driven(MassStorage)
+        return "closed" if owner is None else owner.call(*call)
 
     def reset(self):
         self.awake, self.was_reset = False, True
@@ -194,7 +213,11 @@ class Device:
         """Halts an endpoint, or clears its halt."""
         if address in self.pipes:
             pipe = self.pipes[address]
-            pipe.clear() if not halted else setattr(pipe, "halted", True)
+            if halted:
+                pipe.halted = True
+            else:
+                pipe.clear()
+                self.owners[address].cleared(pipe)
         else:
             (self.halted.add if halted else self.halted.discard)(address)
 

@@ -2,15 +2,19 @@
 """Replays a job in models of a device: what `usbrun device` is to answer, by docs/MODEL.md and docs/FORMATS.md, with no code of
 the crates and nothing built.
 
-    job_model.py <JOB
+    job_model.py [--ahead] [--disk NAME] <JOB
 
-It writes the answers and the line of the status as `usbrun device` does, and ends with that status.
+It writes the answers and the line of the status as `usbrun device` does, and ends with that status. With a disk it leaves the file as
+the job does. `--ahead` has the models drive the classes that no program drives yet.
 """
+import pathlib
 import re
 import sys
 
 from descriptor_model import fault_of
-from device_model import PACKET, Device
+from device_model import PACKET, Device, words_left
+from disk_model import MOST_BLOCKS, Disk, DiskFault
+from scsi_model import BLOCK
 
 MOST_LINE = 8400
 
@@ -53,6 +57,9 @@ CALLS = {
     b"hid take": [],
     b"hid set": [],
     b"hid idle": [],
+    b"msc eject": [],
+    b"msc insert": [],
+    b"msc protect": [(5, number, 0, 1)],
     b"midi send": [(6, data, 1, 1024)],
     b"midi recv": [(5, number, 1, 1024)],
     b"midi bytes": [(5, number, 1, 1024)],
@@ -120,8 +127,18 @@ def short(lines, text=""):
     return 9, text.encode(), f"usbrun: job ends at line {lines}\n".encode()
 
 
-def expected(job):
-    """The status, the answers and the line of the status of a job's bytes."""
+def disk_fault(disk):
+    """How a run ends whose disk can't be attached or has a wrong size, or None."""
+    try:
+        size = disk.attach()
+    except DiskFault:
+        return 7, b"", b"usbrun: disk fault\n"
+    good = size > 0 and size % BLOCK == 0 and size <= MOST_BLOCKS * BLOCK
+    return None if good else (8, b"", f"usbrun: disk size {size}\n".encode())
+
+
+def expected(job, disk=None):
+    """The status, the answers and the line of the status of a job's bytes; the disk is left as the job does."""
     lines = job.split(b"\n")
     if lines[-1] == b"":
         lines.pop()
@@ -139,17 +156,18 @@ def expected(job):
     fault = fault_of(head.device, head.config, head.report)
     if fault is not None:
         return 3, b"", "usbrun: set rule {} at {}\n".format(*fault).encode()
-    return run(Device(head.device, head.config, head.strings, head.report), lines, at)
+    ended = disk_fault(disk) if disk else None
+    return ended or run(Device(head.device, head.config, head.strings, head.report, disk), lines, at)
 
 
-def device_of(job):
-    """The device of a job whose head is one."""
+def device_of(job, disk=None):
+    """The device of a job whose head is one, with a disk that was attached."""
     head = Head()
     for line in job.split(b"\n"):
         read = read_line(line, HEAD)
         head.add(*read)
         if read[0] == "begin":
-            return Device(head.device, head.config, head.strings, head.report)
+            return Device(head.device, head.config, head.strings, head.report, disk)
 
 
 def run(device, lines, start):
@@ -175,8 +193,31 @@ def schedule_of(job):
     return schedule
 
 
+def disk_name(words):
+    """The name behind `--disk` in the words after `device`, `` where there is none, and None where the words are none of a command's."""
+    words = [*words]
+    if words.count("--regs") == 1:
+        words.remove("--regs")
+    if not words:
+        return ""
+    is_named = len(words) == 2 and words[0] == "--disk" and 1 <= len(words[1].encode()) <= 255 and words[1][0] != "-"
+    return words[1] if is_named else None
+
+
+def disk_of(path):
+    """The disk that a file is."""
+    return Disk(path.read_bytes() if path.is_file() else None)
+
+
 def main():
-    status, answers, told = expected(sys.stdin.buffer.read())
+    name = disk_name(words_left(sys.argv[1:]))
+    if name is None:
+        sys.exit(__doc__)
+    path = pathlib.Path(name)
+    disk = disk_of(path) if name else None
+    status, answers, told = expected(sys.stdin.buffer.read(), disk)
+    if disk and disk.data is not None and disk.data != path.read_bytes():
+        path.write_bytes(disk.data)
     sys.stdout.buffer.write(answers)
     sys.stdout.buffer.flush()
     sys.stderr.buffer.write(told)

@@ -95,6 +95,9 @@ class MusicPort:
     def ended(self, pipe, count):
         pass
 
+    def cleared(self, pipe):
+        pass
+
     def work(self):
         if self.data_in is None:
             return

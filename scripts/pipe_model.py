@@ -50,6 +50,9 @@ class OutPipe:
     def clear(self):
         self.halted, self.toggle = False, 0
 
+    def drop(self):
+        self.held = b""
+
 
 class InPipe:
     """A pipe for packets to the host."""
@@ -105,3 +108,6 @@ class InPipe:
             self.queue = self.queue[self.running :]
         self.phase, self.left, self.loaded = "rest", [], 0
         self.halted, self.toggle = False, 0
+
+    def drop(self):
+        self.queue, self.phase, self.left, self.loaded = b"", "rest", [], 0

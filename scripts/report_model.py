@@ -70,6 +70,9 @@ class HumanInterface:
     def ended(self, pipe, count):
         pass
 
+    def cleared(self, pipe):
+        pass
+
     def work(self):
         if self.data_out is not None and self.data_out.seen() == "rest" and not self.data_out.held:
             self.data_out.phase = "armed"

@@ -51,6 +51,9 @@ class SerialPort:
         if pipe is self.data_in:
             self.whole = count > 0 and count % FULL == 0
 
+    def cleared(self, pipe):
+        pass
+
     def work(self):
         if self.data_in is None:
             return
