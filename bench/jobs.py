@@ -6,6 +6,8 @@
     sent           its application writes 64 bytes, and the host gets them with the empty packet behind them
     reports        a keyboard sends a report of 8 bytes, and the host gets it
     music          a MIDI port takes a packet of 16 events, its application reads them and sends the bytes of 16 more
+    reading        a disk of at least 16 blocks gets READ(10) of 8 blocks
+    writing        it gets WRITE(10) of 8 blocks
 
 Handler runs and tasks come only where they have something to do, so that idle ones don't make a line look cheap.
 """
@@ -30,6 +32,7 @@ MIDI = (
     + "config 0902350001010080320904000002010300000724010001230009050102400000000005250101010905820240000000000525010101\n"
     + "begin\n"
 )
+STORAGE = DEVICE + "config 0902200001010080320904000002080650000705010240000007058102400000\nbegin\n"
 RESET = "reset\nirq\n"
 BYTES = bytes(range(64)).hex()
 
@@ -65,6 +68,30 @@ MUSIC = "".join(
     f"out 1 1 {toggle} {NOTES} ok\nirq\ntask\nmidi recv 16\nmidi send {CHORD}\ntask\nirq\nin 1 2 ok\nirq\ntask\n" for toggle in (0, 1)
 )
 
+# what a disk's command of 8 blocks from block 8 on is in front of its 16 command bytes, and the packets of a block
+WRAPPED, BLOCKS, PER_BLOCK = "555342430100000000100000{}000a{}0000000008000008" + "00" * 7, 8, 8
+STATUS = "irq\nin 1 1 ok\nirq\ntask\n"
+
+
+def to_disk(toggle, data):
+    return f"out 1 1 {toggle} {data} ok\nirq\ntask\n"
+
+
+def reading_blocks(toggle):
+    """A READ(10): two packets are loaded at a time, and each block is a transfer."""
+    block = "irq\nin 1 1 ok\nin 1 1 ok\n" * (PER_BLOCK // 2) + "irq\ntask\n"
+    return to_disk(toggle, WRAPPED.format("80", "28")) + block * BLOCKS + STATUS
+
+
+def writing_blocks(toggle):
+    """A WRITE(10): the packets behind the wrapper have the other toggle first."""
+    packets = (to_disk((toggle + 1 + n) & 1, BYTES) for n in range(BLOCKS * PER_BLOCK))
+    return to_disk(toggle, WRAPPED.format("00", "2a")) + "".join(packets) + STATUS
+
+
+READING = reading_blocks(0) + reading_blocks(1)
+WRITING = writing_blocks(0) + writing_blocks(1)
+
 # the lines before the rounds, and those of a round
 JOBS = {
     "enumeration": (PLAIN, ENUMERATION),
@@ -72,6 +99,8 @@ JOBS = {
     "sent": (SERIAL + SESSION, SENT),
     "reports": (KEYBOARD + SESSION, REPORTS),
     "music": (MIDI + SESSION, MUSIC),
+    "reading": (STORAGE + SESSION, READING),
+    "writing": (STORAGE + SESSION, WRITING),
 }
 
 first, each = JOBS[sys.argv[1]]

@@ -1,11 +1,13 @@
 #!/usr/bin/env bash
 # What a line costs: instructions, beside their targets, and seconds and peak memory. The jobs are those of bench/jobs.py.
 # Wants Debian's packages valgrind and time, and python3: bench/run.sh [PROGRAM]
+# KINDS names other jobs. Those of a disk, "reading writing", aren't among them as long as the program drives none.
 set -eu
 top=$(cd "$(dirname "$0")/.." && pwd)
 # The most instructions that a line of each job may take where the register lines are dropped. A plain program without proofs,
 # with the same registers and a driver over them, takes so many.
 declare -A TARGETS=([enumeration]=585 [received]=1018 [sent]=1154)
+kinds=${KINDS:-enumeration received sent reports music}
 work=$(mktemp -d)
 trap 'rm -rf "$work"' EXIT
 
@@ -17,7 +19,19 @@ else
 fi
 
 # What the program does with the register lines, under these words.
-named() { if [ "$*" = device ]; then echo "register lines dropped"; else echo "register lines shown"; fi; }
+named() { case "$*" in *--regs) echo "register lines shown" ;; *) echo "register lines dropped" ;; esac; }
+
+# Makes a disk anew, and puts the words of a job of this kind into `words`.
+words_of() {
+    words=(device)
+    case $1 in
+    reading | writing)
+        rm -f "$work/disk.img"
+        truncate -s 1M "$work/disk.img"
+        words+=(--disk "$work/disk.img")
+        ;;
+    esac
+}
 
 # Whether a job takes no more than its target, where it has one.
 judged() {
@@ -40,12 +54,15 @@ instructions() {
 }
 
 if command -v valgrind >/dev/null 2>&1; then
-    for kind in enumeration received sent reports music; do
+    for kind in $kinds; do
+        words_of "$kind"
         python3 "$top/bench/jobs.py" "$kind" 100000 >"$work/job"
         lines=$(wc -l <"$work/job")
-        dropped=$(instructions "$lines" device)
-        echo "$kind: instructions a line over $lines lines, $(named device): $dropped; $(judged "$kind" "$dropped")"
-        echo "$kind: instructions a line over $lines lines, $(named device --regs): $(instructions "$lines" device --regs)"
+        dropped=$(instructions "$lines" "${words[@]}")
+        echo "$kind: instructions a line over $lines lines, $(named "${words[@]}"): $dropped; $(judged "$kind" "$dropped")"
+        words_of "$kind"
+        words+=(--regs)
+        echo "$kind: instructions a line over $lines lines, $(named "${words[@]}"): $(instructions "$lines" "${words[@]}")"
     done
 else
     echo "SKIPPED instructions: there is no valgrind"
@@ -55,16 +72,16 @@ if [ ! -x /usr/bin/time ]; then
     echo "SKIPPED seconds and memory: there is no /usr/bin/time"
     exit 0
 fi
-for kind in enumeration received sent reports music; do
+for kind in $kinds; do
     for about in 1000 1000000; do
         python3 "$top/bench/jobs.py" "$kind" "$about" >"$work/job"
         lines=$(wc -l <"$work/job")
-        for words in device "device --regs"; do
-            # shellcheck disable=SC2086
-            /usr/bin/time -f '%e %M' -o "$work/time" "$program" $words <"$work/job" >"$work/out"
+        for shown in "" --regs; do
+            words_of "$kind"
+            [ -z "$shown" ] || words+=("$shown")
+            /usr/bin/time -f '%e %M' -o "$work/time" "$program" "${words[@]}" <"$work/job" >"$work/out"
             read -r seconds peak <"$work/time"
-            # shellcheck disable=SC2086
-            echo "$kind: $lines lines, $(named $words): $seconds s, $peak KB at most, $(wc -c <"$work/out") bytes written"
+            echo "$kind: $lines lines, $(named "${words[@]}"): $seconds s, $peak KB at most, $(wc -c <"$work/out") bytes written"
         done
     done
 done
