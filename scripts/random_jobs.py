@@ -5,26 +5,34 @@ The models (`job_model.py`) do what docs/MODEL.md and docs/FORMATS.md say, and u
 those of the crates, so what both read wrongly stays unseen. A job that ends with status 0 is run with `--regs` too, and its
 trace has to be a run of a model of the controller's registers. A run has 60 seconds.
 
-    random_jobs.py PROGRAM [JOBS [SEED]]
+    random_jobs.py [--ahead] PROGRAM [JOBS [SEED]]
 
 A quarter of the jobs have some bytes changed, so that most of these are refused, and a quarter a set that may be one
 that isn't accepted. A job that ends with status 0 and whose device has classes is run again without the lines of each owner: without
 its calls and the packets on its endpoints, the core's among them. What is left has to be answered as before. The status is 1 where a
 run differs; the first job that does is printed.
+
+Where a disk is driven most jobs have a file as one, which is compared with the model's after each run, whatever its status. Some
+jobs are cut at a byte. No file fails on demand, but a write past the most bytes that a file may have does, so some disks fail from
+one of their blocks on.
 """
+import pathlib
 import random
 import sys
 
 from descriptor_model import fault_of, first, grouped, left_of, report_lengths, row_of, serial_group
-from device_model import PACKET
-from job_model import device_of, expected, schedule_of
+from device_model import DRIVEN, PACKET, words_left
+from disk_host import DiskHost
+from disk_model import CASES, Disk, MassStorage
+from job_model import SCHEDULE, device_of, disk_fault, expected, read_line, schedule_of
 from music_model import MusicPort
-from program_run import outcome
+from program_run import DISK, disk_outcome, outcome
 from register_model import Trace, check_trace
 from report_model import HumanInterface
+from scsi_model import BLOCK
 from serial_model import SerialPort
 
-CLASSES = {"cdc": SerialPort, "hid": HumanInterface, "midi": MusicPort}
+CLASSES = {"cdc": SerialPort, "hid": HumanInterface, "msc": MassStorage, "midi": MusicPort}
 
 
 def random_interface(rng, number_, free, sound):
@@ -88,11 +96,24 @@ def music(rng, number_, free):
     return bytes([9, 4, number_, 0, 2, 1, 3, 0, 0]) + b"".join(sized)
 
 
+def storage(rng, number_, free):
+    """An interface of a disk with an endpoint in each direction (Bulk-Only Transport 4), or nothing."""
+    if "msc" not in DRIVEN or rng.random() < 0.4:
+        return b""
+    ends = [next(a for a in free if a & 128 == way) for way in (0, 128)]
+    for address in ends:
+        free.remove(address)
+    rng.shuffle(ends)
+    return bytes([9, 4, number_, 0, 2, 8, 6, 0x50, 0]) + b"".join(bytes([7, 5, address, 2, 64, 0, 0]) for address in ends)
+
+
 def random_config(rng, sound):
     """A configuration of up to five interfaces, and its report descriptor, where there is one. A sound one is of an accepted set."""
     body, count, free = b"", 0, [1, 2, 3, 0x81, 0x82, 0x83]
     if rng.random() < 0.4:
         body, count, free = serial_port(0), 2, [1, 2, 0x81]
+    interface = storage(rng, count, free)
+    body, count = body + interface, count + (interface != b"")
     interface, report = hid(rng, count, free, sound)
     body, count = body + interface, count + (interface != b"")
     interface = music(rng, count, free)
@@ -171,15 +192,19 @@ def owners_of(config):
     _, interfaces = grouped(left_of(row_of(config)[0]))
     groups = {"cdc": serial_group(interfaces), "hid": first(interfaces, 3), "midi": first(interfaces, 1, 3)}
     groups["hid"], groups["midi"] = ([groups[name]] if groups[name] else None for name in ("hid", "midi"))
+    disk = first(interfaces, 8, 6, 0x50) if "msc" in DRIVEN else None
+    groups["msc"] = [disk] if disk else None
     ends = {name: [e[2] for i in group for _, e in i.endpoints] for name, group in groups.items() if group}
     return {name: (groups[name][0].data[2], all_) for name, all_ in ends.items()}
 
 
 class Lines:
-    """Random lines of a schedule, most of them at the address that the device may have."""
+    """Random lines of a schedule, most of them at the address that the device may have. `device` is a model that has answered them
+    all, where there is a disk for a host that reacts."""
 
-    def __init__(self, rng, config, report, owners):
-        self.rng, self.config, self.owners = rng, config, owners
+    def __init__(self, rng, config, report, owners, device):
+        self.rng, self.config, self.owners, self.device = rng, config, owners, device
+        self.host = DiskHost(self, owners["msc"][1]) if device else None
         self.weights = [rng.random() * most for most in (0.1, 1.5, 1.5, 1, 1, 1.5, 0.5)]
         self.control_share = rng.choice([0.5, 0.85, 0.85])
         self.stray_share = rng.choice([0, 0.02, 0.1, 0.3])
@@ -196,6 +221,8 @@ class Lines:
         kind = rng.choices(["reset", "irq", "task", "setup", "out", "in", "state"], self.weights)[0]
         address = self.address if rng.random() < 0.95 else rng.choice([0, 1, 2, rng.randrange(128)])
         endpoint = 0 if rng.random() < self.control_share else rng.randrange(5)
+        if self.host and endpoint == self.host.outward and rng.random() < 0.9:
+            endpoint = 0
         fate = "ok" if rng.random() < 0.85 else ("noack" if kind == "in" else "bad")
         if kind == "setup":
             return f"setup {address} {self.request().hex()} {fate}"
@@ -209,12 +236,17 @@ class Lines:
     def request(self):
         return (likely_setup if self.rng.random() < self.likely_share else random_setup)(self.rng, self.config)
 
+    def add(self, line):
+        self.lines.append(line)
+        if self.device:
+            self.device.answer(read_line(line.encode(), SCHEDULE))
+
     def put(self, *lines):
         """These lines at the device's address, with strays between them."""
         for line in lines:
             while self.rng.random() < self.stray_share:
-                self.lines.append(self.next())
-            self.lines.append(line.format(self.address))
+                self.add(self.next())
+            self.add(line.format(self.address))
 
     def turn(self):
         """What the device's software does after a stage, mostly all that is to be done."""
@@ -250,7 +282,8 @@ class Lines:
             self.address = value if request == 5 else self.address
         self.toggles = {}
         for _ in range(self.rng.choice([1, 3, 10])):
-            self.put(self.data_token())
+            if not self.host or self.rng.random() < 0.1:
+                self.put(self.data_token())
             if self.rng.random() < 0.3:
                 self.control(self.request())
             for name in self.rng.sample(list(self.owners), len(self.owners)):
@@ -263,6 +296,8 @@ class Lines:
 
     def class_turn(self, name):
         """Some of what an application, a host and a class do to each other: bytes either way, with handshakes that are lost."""
+        if name == "msc":
+            return self.host.command()
         rng, ends = self.rng, self.owners[name][1]
         outs, ins = [a for a in ends if a < 128], [a - 128 for a in ends if a >= 128]
         if outs and rng.random() < 0.5:
@@ -352,6 +387,20 @@ class Lines:
         data = b"".join(bytes([rng.randrange(16) + 16 * rng.choice([0, 0, 3]), *rng.randbytes(3)]) for _ in range(rng.choice([0, 1, 2, 16, 16])))
         return data if rng.random() < 0.8 else data[: rng.randrange(PACKET)]
 
+    def msc_call(self):
+        return self.rng.choice(["msc eject", "msc insert", "msc insert", "msc protect 0", "msc protect 0", "msc protect 1"])
+
+    def msc_requests(self):
+        """Requests of Bulk-Only Transport 3, and the halts as GET_STATUS tells them."""
+        rng, (at, ends) = self.rng, self.owners["msc"]
+        asked = [
+            bytes([0xA1, 0xFE, rng.choice([0, 0, 0, 1]), 0, at, 0, rng.choice([1, 1, 0, 2]), 0]),
+            bytes([0x21, 0xFF, rng.choice([0, 0, 1]), 0, at, 0, rng.choice([0, 0, 1]), 0]),
+            bytes([0xA1, rng.choice([0xFD, 0xFF]), 0, 0, at, 0, 1, 0]),
+            *(bytes([0x82, 0, 0, 0, address, 0, 2, 0]) for address in ends),
+        ]
+        self.control(rng.choice(asked))
+
     def data_token(self):
         rng = self.rng
         endpoint = rng.choice([1, 2, 3])
@@ -361,7 +410,32 @@ class Lines:
         return f"out {{}} {endpoint} {rng.choice([0, 1])} {body} ok"
 
 
-def random_job(rng, sound):
+def random_disk(rng):
+    """A disk for a run, or None: a few blocks, some of which may fail to be written. Few are such that the program refuses."""
+    if "msc" not in DRIVEN or rng.random() < 0.1:
+        return None
+    if rng.random() < 0.04:
+        return Disk(rng.choice([None, b"", bytes(BLOCK - 1), bytes(BLOCK + 1)]))
+    blocks = rng.choice([1, 2, 3, 5, 9])
+    most = BLOCK * rng.randrange(blocks) if rng.random() < 0.35 else None
+    return Disk(rng.randbytes(BLOCK * blocks), most=most)
+
+
+def fresh(disk):
+    """A disk as a run finds it."""
+    return disk and Disk(disk.data, disk.fails, disk.most)
+
+
+def live_device(head, owners, disk):
+    """A model of the device for a host that reacts to it, where it has a disk's interface."""
+    if "msc" not in owners:
+        return None
+    disk = fresh(disk)
+    return device_of("\n".join([*head, "begin"]).encode(), None if disk is None or disk_fault(disk) else disk)
+
+
+def random_job(rng, sound, disk=None):
+    """A job, and the model of its device that the host of its disk had, or None."""
     device = b"\x12\x01" + rng.randbytes(5) + b"\x40" + rng.randbytes(9) + bytes([rng.choice([1, 1, 1, 2])])
     config, report = random_config(rng, sound)
     head = [f"device {device.hex()}", f"config {config.hex()}"]
@@ -372,18 +446,18 @@ def random_job(rng, sound):
     if report is not None:
         head.append(f"report {report.hex()}")
     owners = owners_of(config) if fault_of(device, config, report) is None else {}
-    source, whole = Lines(rng, config, report, owners), rng.choice([0.03, 0.15, 0.5])
+    source, whole = Lines(rng, config, report, owners, live_device(head, owners, disk)), rng.choice([0.03, 0.15, 0.5])
     source.put("reset", "irq")
-    length = rng.choice([3, 20, 60, 200])
+    length = rng.choice([60, 200, 500, 1000] if source.host else [3, 20, 60, 200])
     while len(source.lines) < length:
         if rng.random() < whole:
             source.control(source.request())
         elif len(config) > 5 and rng.random() < (0.3 if source.owners else 0.05):
             source.session()
         else:
-            source.lines.append(source.next())
+            source.add(source.next())
     last = ["end", ""] if sound else rng.choice([["end", ""], ["end", ""], ["end"], [""], []])
-    return "\n".join(head + ["begin"] + source.lines + last).encode()
+    return "\n".join(head + ["begin"] + source.lines + last).encode(), source.device
 
 
 def changed(rng, job):
@@ -400,9 +474,18 @@ def changed(rng, job):
     return bytes(job)
 
 
+def wrong_words():
+    """Words that are none of a command's, one that is no text among them."""
+    wrong = [[], [b"\xff"], [b"device", b"\xff\xfe"], [b"device", b"device"]]
+    if "msc" in DRIVEN:
+        names = (["--disk"], ["--disk", "-d"], ["--disk", ""], ["--disk", "d" * 256], ["--disk=d"], ["--disk", "d"] * 2, ["d", "--disk"])
+        wrong += [["device", *name] for name in names]
+    return wrong
+
+
 def words_are_refused(program):
-    """Whether words that are none of a command's, one that is no text among them, end with status 1 and its line."""
-    for words in ([], [b"\xff"], [b"device", b"\xff\xfe"], [b"device", b"device"]):
+    """Whether these end with status 1 and its line."""
+    for words in wrong_words():
         got = outcome([program, *words])
         if got != (1, b"", b"usbrun: usage\n"):
             print(f"words {words} differ: {got[0]} {got[2]!r}")
@@ -410,11 +493,22 @@ def words_are_refused(program):
     return True
 
 
-def trace_of(program, job, answers):
+def run(program, job, disk, *words):
+    """How the program ends with a job, and the disk behind it."""
+    return disk_outcome([program, "device", *(["--disk", DISK] if disk else []), *words], job, disk or Disk(None))
+
+
+def modelled(job, disk):
+    """The same of the models."""
+    disk = fresh(disk)
+    return expected(job, disk), disk and disk.data
+
+
+def trace_of(program, job, disk, answers):
     """The accesses of a job's trace. Raises `Trace` where it isn't a run of the model of the registers."""
-    status, trace, told = outcome([program, "device", "--regs"], job)
-    if (status, told) != (0, b""):
-        raise Trace(f"with --regs it ends {status} {told!r}")
+    (status, trace, told), after = run(program, job, disk, "--regs")
+    if (status, told) != (0, b"") or after != modelled(job, disk)[1]:
+        raise Trace(f"with --regs it ends {status} {told!r}, or its disk holds something else")
     return check_trace(schedule_of(job), trace.decode(), answers.decode())
 
 
@@ -430,7 +524,7 @@ def line_owner(owners, line):
 
 
 def stages_of(job, sort):
-    """Of each line of a job's schedule, whether it is a packet of a control transfer of a class."""
+    """Of each line of a job's schedule, whether it is a packet of a control transfer of a class; no disk tells on that."""
     device, stages = device_of(job), []
     for line in schedule_of(job):
         mine = isinstance(device.control, sort) and line[0] in ("out", "in_") and line[2] == 0
@@ -439,16 +533,18 @@ def stages_of(job, sort):
     return stages
 
 
-def part_fault(program, job, answers, owners, name):
-    """What differs where the lines of one owner are left out, or None. What is told of its control transfers isn't compared."""
-    lines, told = job.split(b"\n"), answers.split(b"\n")
+def part_fault(program, job, disk, whole, owners, name):
+    """What differs where the lines of one owner are left out, or None. What is told of its control transfers isn't compared, and the
+    disk not where they are those of mass storage."""
+    lines, told = job.split(b"\n"), whole[0].split(b"\n")
     start = lines.index(b"begin") + 1
     kept = [at for at, line in enumerate(lines[start:]) if line_owner(owners, line) != name]
     short = b"\n".join(lines[:start] + [lines[start + at] for at in kept])
-    status, got, _ = outcome([program, "device"], short)
+    (status, got, _), after = run(program, short, disk)
     stages = stages_of(job, CLASSES[name]) if name in CLASSES else []
     pairs = zip((at for at in kept if at < len(told)), got.split(b"\n"))
     same = all(told[at] == answer or (at < len(stages) and stages[at]) for at, answer in pairs)
+    same = same and (name == "msc" or after == whole[1])
     return None if status == 0 and same else short
 
 
@@ -458,36 +554,50 @@ def owners_in(job):
     return owners_of(bytes.fromhex(line[7:].decode()))
 
 
-def parts_fault(program, job, answers, owners):
-    """The job without one owner's lines that is answered otherwise, or None."""
-    faults = (part_fault(program, job, answers, owners, name) for name in ("core", *owners))
+def parts_fault(program, job, disk, whole, owners):
+    """The job without one owner's lines that is answered otherwise, or leaves its disk otherwise, or None. `whole` has the answers
+    to the job and what its disk holds."""
+    faults = (part_fault(program, job, disk, whole, owners, name) for name in ("core", *owners))
     return next((fault for fault in faults if fault is not None), None)
 
 
+def told_cases(devices):
+    """Which of the thirteen cases the hosts of disks came to, in a line for the reader."""
+    stored = [device.driven(MassStorage) for device in devices if device]
+    cases = {case.number: sum(each.cases[case.number] for each in stored) for case in CASES}
+    told = ", ".join(f"{number}: {count}" for number, count in cases.items())
+    return f"disks: commands by their case {told}; {sum(each.faults for each in stored)} calls on a disk failed"
+
+
 def main():
-    program = sys.argv[1]
+    words = words_left(sys.argv[1:])
+    program = str(pathlib.Path(words[0]).resolve())
     if not words_are_refused(program):
         return 1
-    jobs = int(sys.argv[2]) if len(sys.argv) > 2 else 400
-    rng = random.Random(int(sys.argv[3]) if len(sys.argv) > 3 else 1)
-    statuses, accesses, parts = {}, 0, 0
+    jobs = int(words[1]) if len(words) > 1 else 400
+    rng = random.Random(int(words[2]) if len(words) > 2 else 1)
+    statuses, accesses, parts, devices = {}, 0, 0, []
     for count in range(jobs):
-        job = random_job(rng, sound=count % 2 == 1)
+        disk = random_disk(rng)
+        job, device = random_job(rng, count % 2 == 1, disk)
+        devices.append(device)
         if count % 4 == 0:
             job = changed(rng, job)
-        got = outcome([program, "device"], job)
-        if got != expected(job):
+        if device and count % 8 == 2:
+            job = job[: rng.randrange(len(job))]
+        got, after = run(program, job, disk)
+        if (got, after) != modelled(job, disk):
             sys.stdout.buffer.write(job)
-            print(f"job {count} differs: {got[0]} {got[2]!r}, and not {expected(job)[0]} {expected(job)[2]!r}")
+            print(f"job {count} differs: {got[0]} {got[2]!r}, and not {modelled(job, disk)[0][0]} {modelled(job, disk)[0][2]!r}")
             return 1
         try:
-            accesses += trace_of(program, job, got[1]) if got[0] == 0 else 0
+            accesses += trace_of(program, job, disk, got[1]) if got[0] == 0 else 0
         except Trace as wrong:
             sys.stdout.buffer.write(job)
             print(f"the trace of job {count} differs: {wrong}")
             return 1
         owners = owners_in(job) if got[0] == 0 else {}
-        fault = parts_fault(program, job, got[1], owners) if owners else None
+        fault = parts_fault(program, job, disk, (got[1], after), owners) if owners else None
         if fault is not None:
             sys.stdout.buffer.write(job + b"\n-- without one owner's lines:\n" + fault)
             print(f"a part of job {count} is answered otherwise")
@@ -498,6 +608,8 @@ def main():
     print(f"random jobs: {jobs} of {jobs} agree ({told})")
     print(f"parts: {parts} jobs are answered alike without one owner's lines")
     print(f"register accesses: {accesses} checked in {statuses.get(0, 0)} traces")
+    if "msc" in DRIVEN:
+        print(told_cases(devices))
     return 0
 
 
