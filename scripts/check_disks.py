@@ -2,10 +2,11 @@
 """Runs a built `usbrun` on files that are no disks, and on disks that fail: check_disks.py [--ahead] PROGRAM
 
 No contract speaks of what a real file holds, so these runs are all that shows it. Each has 60 seconds: a name that no file has, a
-folder, files of no disk's size, the largest disk and one of a block more; a file that may not be written past some block; and a file that is
-cut while the job waits, so that its last blocks can't be read. The program hands on all its answers before it waits for more of the
-job, so the file is cut between two lines. No file fails when it is flushed: that is left to tests with a disk in memory.
-The exit status is 1 where one differs. As long as the program drives no disk, nothing is run.
+folder, files of no disk's size, the largest disk and one of a block more; a file that may not be written past some block; and a
+file that is cut while the job waits, so that its last block can't be read. The program hands on all its answers before it waits
+for more of the job, so the file is cut between two lines. No file here fails when it is flushed, and none fails once and then no
+more: that is left to tests with a disk in memory. The exit status is 1 where a run differs. As long as the program drives no disk,
+nothing is run.
 """
 
 import os
@@ -89,7 +90,8 @@ def limited(program):
 
 def cut_run(program, path, lines, rest):
     """How a run ends whose disk loses its last block once these lines were answered."""
-    with subprocess.Popen([program, "device", "--disk", path], stdin=subprocess.PIPE, stdout=subprocess.PIPE, stderr=subprocess.PIPE) as process:
+    streams = {name: subprocess.PIPE for name in ("stdin", "stdout", "stderr")}
+    with subprocess.Popen([program, "device", "--disk", path], **streams) as process:
         late = threading.Timer(LIMIT, process.kill)
         late.start()
         process.stdin.write(lines.encode())
