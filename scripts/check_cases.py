@@ -133,10 +133,11 @@ class Host:
 def seen_of(row, lines, answers):
     """What the host got, from the answers to these lines: data, the pipe that stalled, status and residue, sense."""
     told = list(zip(lines, answers))
-    got = [bytes.fromhex(answer.split(" ")[1].replace("-", "")) for line, answer in told if line.startswith("in 0 1 ") and answer.startswith("data")]
-    at = next((n for n, data in enumerate(got) if data[:4] == STATUS_SIGNATURE), len(got) - 1)
+    data = [answer[6:].replace("-", "") for line, answer in told if line.startswith("in 0 1 ") and answer.startswith("data")]
+    got = [bytes.fromhex(each) for each in data]
+    at = next((n for n, each in enumerate(got) if each[:4] == STATUS_SIGNATURE), len(got))
     stalled = {line.split(" ")[0] for line, answer in told if answer == "stall"}
-    status, sense = got[at], b"".join(got[at + 1 : at + 2]).ljust(18, b"\0")
+    status, sense = b"".join(got[at : at + 1]), b"".join(got[at + 1 : at + 2]).ljust(18, b"\0")
     return b"".join(got[:at]), "".join(stalled), status[12:].hex(), int.from_bytes(status[8:12], "little"), (sense[2], sense[12])
 
 

@@ -9,7 +9,7 @@ from scsi_model import BLOCK
 PACKET = 64
 MOST = 2**32 - 1
 # the codes of commands, as often as they come
-CODES = [0x28] * 6 + [0x2A] * 7 + [0x00, 0x03, 0x03, 0x12, 0x1A, 0x1B, 0x1E, 0x23, 0x25, 0x2F, 0x35, 0x35, 0x04, 0xFF]
+CODES = [0x28] * 6 + [0x2A] * 7 + [0x1B] * 3 + [0x1E] * 2 + [0x00, 0x03, 0x03, 0x12, 0x1A, 0x23, 0x25, 0x2F, 0x35, 0x35, 0x04, 0xFF]
 
 
 class DiskHost:
@@ -52,25 +52,25 @@ class DiskHost:
                 return
 
     def make_ready(self):
-        """Mostly a medium that is there, may be written and has no news."""
+        """Mostly a medium that is there and may be written."""
         unit, rng = self.storage().unit, self.rng
-        for wrong, call in ((not unit.present, "msc insert"), (unit.protected, "msc protect 0")):
-            if wrong and rng.random() < 0.7:
+        for wrong, often, call in ((not unit.present, 0.7, "msc insert"), (unit.protected, 0.5, "msc protect 0"), (True, 0.05, "msc protect 1")):
+            if wrong and rng.random() < often:
                 self.lines.put(call)
 
     def block(self):
         """The bytes of a command."""
         rng, unit = self.rng, self.storage().unit
-        code = 0x03 if unit.attention and rng.random() < 0.6 else rng.choice(CODES)
+        code = 0x03 if unit.attention and rng.random() < 0.6 else 0x1B if unit.prevented and rng.random() < 0.2 else rng.choice(CODES)
         block = bytearray([code]) + bytes(15)
         if code in (0x03, 0x12, 0x1A):
             block[4] = rng.choice([0, 1, 4, 8, 18, 36, 252, 255])
         if code == 0x12:
             block[1], block[3] = rng.choice([0, 0, 0, 0, 1, 2]), rng.choice([0, 0, 0, 1])
         if code == 0x1B:
-            block[4] = rng.choice([0, 1, 2, 3, 3, 0x12])
+            block[4] = rng.choice([0, 1, 2, 2, 3, 3, 0x12])
         if code == 0x1E:
-            block[4] = rng.choice([0, 0, 1, 2, 3])
+            block[4] = rng.choice([0, 1, 1, 2, 3])
         if code == 0x23:
             block[7:9] = rng.choice([0, 4, 12, 12, 252, 256]).to_bytes(2, "big")
         if code in (0x28, 0x2A, 0x2F):
