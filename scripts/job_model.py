@@ -210,7 +210,8 @@ def disk_of(path):
 
 
 def main():
-    name = disk_name(words_left(sys.argv[1:]))
+    words = words_left(sys.argv[1:])
+    name = None if "--regs" in words else disk_name(words)
     if name is None:
         sys.exit(__doc__)
     path = pathlib.Path(name)
