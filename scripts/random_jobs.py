@@ -569,6 +569,23 @@ def told_cases(devices):
     return f"disks: commands by their case {told}; {sum(each.faults for each in stored)} calls on a disk failed"
 
 
+def drawn(rng, count):
+    """The next job, the model of its device that the host of its disk had, and its disk."""
+    disk = random_disk(rng)
+    job, device = random_job(rng, count % 2 == 1, disk)
+    if count % 4 == 0:
+        job = changed(rng, job)
+    if device and count % 8 == 2:
+        job = job[: rng.randrange(len(job))]
+    return job, device, disk
+
+
+def difference(got, wanted):
+    """How two ends of a job differ, each with the disk behind it."""
+    ends = f"{got[0][0]} {got[0][2]!r}, and not {wanted[0][0]} {wanted[0][2]!r}"
+    return "the disk holds something else" if got[0] == wanted[0] else ends
+
+
 def main():
     words = words_left(sys.argv[1:])
     program = str(pathlib.Path(words[0]).resolve())
@@ -578,17 +595,12 @@ def main():
     rng = random.Random(int(words[2]) if len(words) > 2 else 1)
     statuses, accesses, parts, devices = {}, 0, 0, []
     for count in range(jobs):
-        disk = random_disk(rng)
-        job, device = random_job(rng, count % 2 == 1, disk)
+        job, device, disk = drawn(rng, count)
         devices.append(device)
-        if count % 4 == 0:
-            job = changed(rng, job)
-        if device and count % 8 == 2:
-            job = job[: rng.randrange(len(job))]
-        got, after = run(program, job, disk)
-        if (got, after) != modelled(job, disk):
+        (got, after), wanted = run(program, job, disk), modelled(job, disk)
+        if (got, after) != wanted:
             sys.stdout.buffer.write(job)
-            print(f"job {count} differs: {got[0]} {got[2]!r}, and not {modelled(job, disk)[0][0]} {modelled(job, disk)[0][2]!r}")
+            print(f"job {count} differs: {difference((got, after), wanted)}")
             return 1
         try:
             accesses += trace_of(program, job, disk, got[1]) if got[0] == 0 else 0
