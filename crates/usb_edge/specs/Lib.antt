@@ -2,3 +2,4 @@ pub mod Stream
 pub mod Memory
 pub mod Outcome
 pub mod System
+pub mod Disk

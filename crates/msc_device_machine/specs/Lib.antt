@@ -1,0 +1,5 @@
+pub mod Wrapper
+pub mod Cases
+pub mod Disk
+pub mod Storage
+pub mod Device
