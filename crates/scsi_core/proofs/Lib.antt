@@ -1,3 +1,3 @@
-mod Choices
-mod Causes
-mod CommandLemmas
+pub mod Choices
+pub mod Causes
+pub mod CommandLemmas
