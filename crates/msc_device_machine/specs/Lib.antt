@@ -3,3 +3,5 @@ pub mod Cases
 pub mod Disk
 pub mod Storage
 pub mod Device
+pub mod Sound
+pub mod Laws

@@ -1,6 +1,6 @@
 -- A disk behind USB mass storage as a device has it: what it holds, its requests, its work and its calls (Bulk-Only Transport 1.0).
 -- What it asks of the disk, and how it goes on by the disk's answer, is told apart, so that it is told for every disk.
-use Rattle.std.specs.Prelude.{ℕ, ◌+◌, ◌-◌, ◌*◌, List, [], ◌∷◌, ◌++◌, Bool, true, false, not, ◌==◌, ◌&&◌, ◌||◌, nat_le, nat_lt, length, take, drop, min, Option, Some, None, if◌then◌else◌}
+use Rattle.std.specs.Prelude.{ℕ, ◌+◌, ◌-◌, ◌*◌, List, [], ◌∷◌, ◌++◌, Bool, true, false, not, ◌==◌, ◌&&◌, ◌||◌, nat_lt, length, take, drop, min, Option, Some, None, if◌then◌else◌}
 use Rattle.usb_packet.specs.declared.setup.Setup.{Setup}
 use Rattle.usb_pipe.specs.declared.decision.Decision.{Decision}
 use Rattle.usb_pipe.specs.declared.decision.Decision.TheVariants as decision

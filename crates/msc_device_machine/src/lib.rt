@@ -2,6 +2,7 @@
 //! of its disk, as definitions (Bulk-Only Transport 1.0), and laws of them.
 #![tactic(auto)]
 
+pub mod laws;
 mod transport;
 
 pub use transport::{Due, Flow, Transport};

@@ -1,0 +1,11 @@
+//! Laws of the definitions. The functions do nothing: their clauses are the laws.
+ghost use Rattle.msc_device_machine.specs.Laws.{BeginsSound, KeepsSound, WorksSound, AsksWithin};
+
+/// What a device still has to move lies on its disk, and is no more than the host expects: so it is at the start, and so all that
+/// happens keeps it. The disk is asked for blocks of its own alone.
+pub fn blocks_lie_on_the_disk()
+    ensures begins { BeginsSound }
+    ensures keeps { KeepsSound }
+    ensures works { WorksSound }
+    ensures asks { AsksWithin }
+{}
