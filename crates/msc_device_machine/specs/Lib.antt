@@ -5,3 +5,5 @@ pub mod Storage
 pub mod Device
 pub mod Sound
 pub mod Laws
+pub mod Runs
+pub mod Examples

@@ -1,4 +1,5 @@
 //! Laws of the definitions. The functions do nothing: their clauses are the laws.
+ghost use Rattle.msc_device_machine.specs.Examples.{Wrappers, HostExpectsNothing, HostExpectsData, HostSendsData};
 ghost use Rattle.msc_device_machine.specs.Laws.{BeginsSound, KeepsSound, WorksSound, AsksWithin};
 
 /// What a device still has to move lies on its disk, and is no more than the host expects: so it is at the start, and so all that
@@ -8,4 +9,12 @@ pub fn blocks_lie_on_the_disk()
     ensures keeps { KeepsSound }
     ensures works { WorksSound }
     ensures asks { AsksWithin }
+{}
+
+/// These wrappers are good or not, and the thirteen cases end so (Bulk-Only Transport 1.0, 6.2 and 6.7).
+pub fn cases_worked()
+    ensures wrappers { Wrappers }
+    ensures nothing { HostExpectsNothing }
+    ensures expects { HostExpectsData }
+    ensures sends { HostSendsData }
 {}
