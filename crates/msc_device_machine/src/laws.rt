@@ -1,5 +1,5 @@
 //! Laws of the definitions. The functions do nothing: their clauses are the laws.
-ghost use Rattle.msc_device_machine.specs.Examples.{Wrappers, HostExpectsNothing, HostExpectsData, HostSendsData};
+ghost use Rattle.msc_device_machine.specs.Examples.{Wrappers, HostExpectsNothing, HostExpectsData, HostSendsData, Reads, ReadFaults, Writes, WriteFaults, Synchronizes, PhaseErrors, Clears, Resets, Requests, Sessions, Medium};
 ghost use Rattle.msc_device_machine.specs.Laws.{BeginsSound, KeepsSound, WorksSound, AsksWithin};
 
 /// What a device still has to move lies on its disk, and is no more than the host expects: so it is at the start, and so all that
@@ -17,4 +17,23 @@ pub fn cases_worked()
     ensures nothing { HostExpectsNothing }
     ensures expects { HostExpectsData }
     ensures sends { HostSendsData }
+{}
+
+/// These reads, writes and synchronizations end so, with and without calls of the disk that fail; phase errors leave the disk alone.
+pub fn blocks_worked()
+    ensures reads { Reads }
+    ensures read_faults { ReadFaults }
+    ensures writes { Writes }
+    ensures write_faults { WriteFaults }
+    ensures synchronizes { Synchronizes }
+    ensures phase_errors { PhaseErrors }
+{}
+
+/// So do these clears, resets, requests and sessions, and what a user does to the medium.
+pub fn sequences_worked()
+    ensures clears { Clears }
+    ensures resets { Resets }
+    ensures requests { Requests }
+    ensures sessions { Sessions }
+    ensures medium { Medium }
 {}
