@@ -23,15 +23,11 @@ use Rattle.msc_device_machine.specs.declared.transport.Due.TheVariants as due
 use Rattle.msc_device_machine.specs.Wrapper.{Wrapper, is_good, wrapper_of}
 use Rattle.msc_device_machine.specs.Cases.{Data, Nothing, ToHost, FromHost, Case, by_size, row_of, row_for, Row, hi_above_di, hi_is_di, hi_below_di, ho_above_do, ho_is_do, ho_below_do}
 use Rattle.msc_device_machine.specs.Storage.{Storage, first, first_unit, stopped, anew, after_setup, is_reset, after_came, after_end, Turn, Step, turned, flow_of, expected, intended, unmoved, moving, by_row, commanded, wrapped, moved_by, gathered, received, stored, sent_on, fetched, with_packet_read, packet, noted, at_packet, at_end, by_notes, unless_broken, taken_up, asks, synced, read_on, wrote_on, resumed, served, call_of, worked, unit_after, with_medium, after_call}
+use Rattle.msc_device_machine.specs.Laws.{size_of}
 use Rattle.msc_device_machine.specs.Sound.{IsSending, IsReceiving, Fits, IsSound, IsReading, IsWriting, IsDue, LiesOn, IsAnswer}
 use Rattle.msc_device_machine.proofs.Few.{IsFew, worked_few}
 
 -- What moves is no more than the host expects.
-
-abbrev pub size_of : Data → ℕ
-size_of Nothing = 0
-size_of (ToHost n) = n
-size_of (FromHost n) = n
 
 by_size_fits : (h d : ℕ) (above same below : Case) → (row_of below).moves ≡ false → (row_of (by_size h d above same below)).moves ≡ true → d ≤ h
 by_size_fits h d above same below never =

@@ -1,2 +1,4 @@
 pub mod Few
 pub mod Keeps
+pub mod Table
+pub mod Faults

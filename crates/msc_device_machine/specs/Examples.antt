@@ -1,15 +1,13 @@
 -- Commands that are worked out by hand from Bulk-Only Transport 1.0 (5 and 6), SPC-2 and SBC-2.
 use Rattle.std.specs.Prelude.{◌≡◌, ℕ, List, [], ◌∷◌, ◌++◌, Bool, true, false, replicate, take, Some, codes}
-use Rattle.usb_packet.specs.declared.bus.Toggle.TheVariants.{D0}
 use Rattle.usb_packet.specs.declared.setup.Setup.{Setup}
 use Rattle.usb_pipe.specs.declared.decision.Decision.TheVariants as decision
 use Rattle.usb_pipe.specs.declared.call.MscDeviceCall.TheVariants.{Eject, Insert, Protect}
 use Rattle.usb_pipe.specs.Own.{Own, Sender, no_sender, no_receiver}
 use Rattle.device_pipe.specs.InPipe as inward
 use Rattle.usb_edge.specs.Disk.{Shelf}
-use Rattle.scsi_core.specs.declared.Sense.{Sense}
 use Rattle.scsi_core.specs.declared.Unit.{Unit as Disk}
-use Rattle.msc_device_machine.specs.Wrapper.{Wrapper, is_good, wrapper_of, status_wrapper}
+use Rattle.msc_device_machine.specs.Wrapper.{is_good, wrapper_of, status_wrapper}
 use Rattle.msc_device_machine.specs.Storage.{decided}
 use Rattle.msc_device_machine.specs.Runs.{Turn, Run, Comes, Leaves, HaltsIn, ClearsIn, HaltsOut, ClearsOut, Asks, Calls, Begins, Stops, Works, made, is_armed, is_running, in_of, out_of, after_turns}
 

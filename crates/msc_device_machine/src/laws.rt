@@ -1,6 +1,6 @@
 //! Laws of the definitions. The functions do nothing: their clauses are the laws.
 ghost use Rattle.msc_device_machine.specs.Examples.{Wrappers, HostExpectsNothing, HostExpectsData, HostSendsData, Reads, ReadFaults, Writes, WriteFaults, Synchronizes, PhaseErrors, Clears, Resets, Requests, Sessions, Medium};
-ghost use Rattle.msc_device_machine.specs.Laws.{BeginsSound, KeepsSound, WorksSound, AsksWithin};
+ghost use Rattle.msc_device_machine.specs.Laws.{BeginsSound, KeepsSound, WorksSound, AsksWithin, CasesAgree, MovesNoMore, HaltsWhatIsDue, NothingInPhaseErrors, OneCall, FaultsAreTold};
 
 /// What a device still has to move lies on its disk, and is no more than the host expects: so it is at the start, and so all that
 /// happens keeps it. The disk is asked for blocks of its own alone.
@@ -9,6 +9,22 @@ pub fn blocks_lie_on_the_disk()
     ensures keeps { KeepsSound }
     ensures works { WorksSound }
     ensures asks { AsksWithin }
+{}
+
+/// A phase error stands where the host and the device don't agree on what is moved, and moves nothing; the host's pipe is halted
+/// exactly where bytes are due on it (Bulk-Only Transport 1.0, 6.7).
+pub fn cases_agree()
+    ensures agree { CasesAgree }
+    ensures no_more { MovesNoMore }
+    ensures due { HaltsWhatIsDue }
+{}
+
+/// The disk is asked at most once in a task, and nothing in a phase error. A fault is told by the sense of what was asked, and no
+/// other way.
+pub fn disk_is_asked_once()
+    ensures phase_errors { NothingInPhaseErrors }
+    ensures once { OneCall }
+    ensures faults { FaultsAreTold }
 {}
 
 /// These wrappers are good or not, and the thirteen cases end so (Bulk-Only Transport 1.0, 6.2 and 6.7).
