@@ -4,6 +4,7 @@ use Rattle.usb_packet.specs.declared.setup.Setup.{Setup}
 use Rattle.usb_pipe.specs.declared.call.MscDeviceCall.{MscDeviceCall}
 use Rattle.usb_pipe.specs.Own.{Own}
 use Rattle.usb_edge.specs.Stream.{counted}
+use Rattle.usb_edge.specs.Disk.{Shelf, block_size}
 use Rattle.scsi_core.specs.declared.Sense.{Sense}
 use Rattle.scsi_core.specs.Command as scsi
 use Rattle.msc_device_machine.specs.declared.transport.Due.TheVariants as due
@@ -11,7 +12,9 @@ use Rattle.msc_device_machine.specs.Wrapper.{Wrapper}
 use Rattle.msc_device_machine.specs.Cases.{Data, Nothing, ToHost, FromHost, Row, row_for}
 use Rattle.msc_device_machine.specs.Disk.{Call, Read, Write, Sync}
 use Rattle.msc_device_machine.specs.Device.{Device, after_work}
-use Rattle.msc_device_machine.specs.Storage.{Storage, Turn, first, stopped, anew, after_setup, after_came, after_end, expected, intended, pipe_of, commanded, read_error, write_error, call_of, worked, after_call}
+use Rattle.msc_device_machine.specs.Storage.{Storage, Turn, first, stopped, anew, after_setup, after_came, after_end, expected, intended, pipe_of, commanded, read_error, write_error, wants_packet, call_of, worked, after_call}
+use Rattle.msc_device_machine.specs.Runs as runs
+use Rattle.msc_device_machine.specs.Runs.{in_of, out_of, is_armed, is_running, after_turns, made}
 use Rattle.msc_device_machine.specs.Sound.{IsSound, LiesOn, IsAnswer}
 
 -- What always holds.
@@ -109,3 +112,13 @@ FaultsAreTold =
     → ((call : Call) → call_of s own ≡ Some call → answer ≡ None → (worked s own answer).storage.unit.sense ≡ fault_of call)
     × ((worked s own answer).storage.unit.sense.key ≡ 3
     → (s.unit.sense.key ≡ 3) ⊎ ((call : Call) × (call_of s own ≡ Some call) × (answer ≡ None)))
+
+-- What the pipes do in a run, from a device on that was just made.
+
+-- a packet is taken only where one is waited for, a command wrapper or data, and never beside a transfer for the host
+abbrev pub PacketsAreWaitedFor : Type 0
+PacketsAreWaitedFor =
+    (blocks : ℕ) (own : Own) (shelf : Shelf) (turns : List runs.Turn) → block_size ≤ own.sends.capacity
+    → let run = after_turns (made blocks own shelf) turns in
+    (is_armed (out_of run).phase ≡ true → wants_packet run.storage.transport ≡ true)
+    × (is_running (in_of run).phase ≡ true → is_armed (out_of run).phase ≡ false)

@@ -1,6 +1,6 @@
 //! Laws of the definitions. The functions do nothing: their clauses are the laws.
 ghost use Rattle.msc_device_machine.specs.Examples.{Wrappers, HostExpectsNothing, HostExpectsData, HostSendsData, Reads, ReadFaults, Writes, WriteFaults, Synchronizes, PhaseErrors, Clears, Resets, Requests, Sessions, Medium};
-ghost use Rattle.msc_device_machine.specs.Laws.{BeginsSound, KeepsSound, WorksSound, AsksWithin, CasesAgree, MovesNoMore, HaltsWhatIsDue, NothingInPhaseErrors, OneCall, FaultsAreTold};
+ghost use Rattle.msc_device_machine.specs.Laws.{BeginsSound, KeepsSound, WorksSound, AsksWithin, CasesAgree, MovesNoMore, HaltsWhatIsDue, NothingInPhaseErrors, OneCall, FaultsAreTold, PacketsAreWaitedFor};
 
 /// What a device still has to move lies on its disk, and is no more than the host expects: so it is at the start, and so all that
 /// happens keeps it. The disk is asked for blocks of its own alone.
@@ -25,6 +25,11 @@ pub fn disk_is_asked_once()
     ensures phase_errors { NothingInPhaseErrors }
     ensures once { OneCall }
     ensures faults { FaultsAreTold }
+{}
+
+/// In every run a packet is taken only where one is waited for, and never beside a transfer for the host.
+pub fn packets_are_waited_for()
+    ensures { PacketsAreWaitedFor }
 {}
 
 /// These wrappers are good or not, and the thirteen cases end so (Bulk-Only Transport 1.0, 6.2 and 6.7).
