@@ -5,7 +5,7 @@ use device_run::DeviceRun;
 use dwc2_regs::Access;
 use std::alloc::Global;
 use std::process::Abort;
-use usb_edge::FileDisks;
+use usb_edge::MemDisks;
 use usb_packet::{BusAnswer, BusEvent};
 use usb_pipe::Reply;
 
@@ -37,7 +37,7 @@ fn were_made(accesses: &[Access], expected: &[(bool, u16, u32)]) -> bool {
 #[test]
 fn resets(rt: HostRuntime) {
     let mut run = opened(&rt, rt.alloc());
-    let mut disks = FileDisks::new();
+    let mut disks = MemDisks::new(Vec::new(rt.alloc()), Vec::new(rt.alloc()));
     assert!(rt; run.trace().is_empty());
     assert!(rt; is_done(&run.step(&DevLine::Irq, &mut disks)));
     assert!(rt; were_made(run.trace(), &[(false, 0x14, 0), (false, 0x20, 0)]));
@@ -75,7 +75,7 @@ fn resets(rt: HostRuntime) {
 #[test]
 fn hears_a_setup(rt: HostRuntime) {
     let mut run = opened(&rt, rt.alloc());
-    let mut disks = FileDisks::new();
+    let mut disks = MemDisks::new(Vec::new(rt.alloc()), Vec::new(rt.alloc()));
     run.step(&DevLine::Bus(BusEvent::Reset), &mut disks);
     run.step(&DevLine::Irq, &mut disks);
     let setup = BusEvent::Setup {
@@ -116,7 +116,7 @@ fn hears_a_setup(rt: HostRuntime) {
 #[test]
 fn loads_a_descriptor(rt: HostRuntime) {
     let mut run = opened(&rt, rt.alloc());
-    let mut disks = FileDisks::new();
+    let mut disks = MemDisks::new(Vec::new(rt.alloc()), Vec::new(rt.alloc()));
     let setup = BusEvent::Setup {
         addr: 0,
         bytes: DESCRIPTOR,

@@ -1,5 +1,5 @@
--- What a source or a sink answers, by what the system's calls gave.
-use Rattle.std.specs.Prelude.{ℕ, ◌==◌, if◌then◌else◌, Result, Ok, Err}
+-- What a source, a sink or a disk answers, by what the system's calls gave.
+use Rattle.std.specs.Prelude.{ℕ, ◌==◌, if◌then◌else◌, Option, Some, None, Result, Ok, Err}
 use Rattle.usb_edge.specs.declared.stream.Got.{Got}
 use Rattle.usb_edge.specs.declared.stream.Got.TheVariants as got
 use Rattle.usb_edge.specs.declared.stream.Wrote.{Wrote}
@@ -22,3 +22,8 @@ abbrev pub faults_at_read : Got → ℕ → ℕ
 faults_at_read (got.Bytes n) faults = faults
 faults_at_read got.End faults = faults
 faults_at_read got.Failed faults = counted faults
+
+-- a read or a write of a block: it passes where all 512 bytes moved
+abbrev pub block_answer : {E : Type 0} → Result ℕ E → Option Unit
+block_answer (Ok n) = if n == 512 then Some tt else None
+block_answer (Err e) = None

@@ -1,7 +1,9 @@
-ghost use Rattle.std.specs.Prelude.{[], ◌∷◌};
+ghost use Rattle.std.specs.Prelude.{◌≡◌, [], ◌∷◌};
+ghost use Rattle.usb_edge.specs.Disk.{HasBlock};
 
 use crate::{
-    Got, MOST_TEXT, MemSink, MemSource, NoSink, Sink, Source, StderrSink, StdoutSink, Text, Wrote,
+    DiskFault, Disks, Got, MOST_TEXT, MemSink, MemSource, NoSink, Sink, Source, StderrSink,
+    StdoutSink, Text, Wrote,
 };
 use arrayvec::ArrayVec;
 use std::test::Fail;
@@ -90,4 +92,16 @@ fn texts_in_memory(rt: HostRuntime) -> Result<(), Fail> {
     assert!(rt; tell_once(&mut sink, &Byte { byte: 9 }));
     assert_eq!(rt; sink.bytes(), [7, 9].as_slice());
     Ok(())
+}
+
+/// The block of a disk.
+pub(crate) fn block<D: Disks>(disks: &mut D, slot: u8, lba: u32) -> Result<[u8; 512], DiskFault>
+    requires { HasBlock (D.size disks.old slot) lba }
+    ensures { D.size disks.new ≡ D.size disks.old }
+{
+    let mut buf = [0; 512];
+    match disks.read(slot, lba, &mut buf) {
+        Ok(()) => Ok(buf),
+        Err(fault) => Err(fault),
+    }
 }

@@ -22,7 +22,7 @@ use status::Status;
 use std::io::ErrorKind;
 use std::process::ExitCode;
 use std::{env, io};
-use usb_edge::{StderrSink, StdinSource, StdoutSink};
+use usb_edge::{FileDisks, StderrSink, StdinSource, StdoutSink};
 
 /// The process's words, of which the first is the program's name.
 fn words(rt: &HostRuntime) -> io::Result<Vec<String>> {
@@ -44,11 +44,19 @@ fn main(rt: HostRuntime) -> ExitCode {
     let mut src = StdinSource::new(rt.stdin());
     let mut out = StdoutSink::new(rt.stdout());
     let mut err = StderrSink::new(rt.stderr());
+    let mut disks = FileDisks::new(rt);
     let status = match words(&rt) {
-        Ok(words) => run_process(rt.alloc(), words.as_slice(), &mut src, &mut out, &mut err),
+        Ok(words) => run_process(
+            rt.alloc(),
+            words.as_slice(),
+            &mut src,
+            &mut out,
+            &mut err,
+            &mut disks,
+        ),
         // a word that is no text is none of a command's
         Err(error) if error.kind() == ErrorKind::InvalidData => {
-            run_process(rt.alloc(), &[], &mut src, &mut out, &mut err)
+            run_process(rt.alloc(), &[], &mut src, &mut out, &mut err, &mut disks)
         }
         Err(_) => no_memory(&mut err),
     };

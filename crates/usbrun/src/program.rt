@@ -6,16 +6,17 @@ ghost use Rattle.usbrun.specs.Top.{Claims};
 use crate::status::Status;
 use crate::top::{tell, usb_top};
 use std::alloc::Global;
-use usb_edge::{FileDisks, NoSink, Sink, Source, StderrSink, StdinSource, StdoutSink};
+use usb_edge::{Disks, FileDisks, NoSink, Sink, Source, StderrSink, StdinSource, StdoutSink};
 
 /// Runs the program on these words: its job comes from `src`, its output goes to `out`, and what it ends with is told on
 /// `err`. Nobody reads its trace. Where there is no memory for the words, nothing is read and nothing written but that.
-fn run_words<S: Source, K: Sink, E: Sink>(
+fn run_words<S: Source, K: Sink, E: Sink, D: Disks>(
     alloc: Global,
     words: &[String],
     src: &mut S,
     out: &mut K,
     err: &mut E,
+    disks: &mut D,
 ) -> Status
     ensures claims { ((result ≡ Status.NoMemory) × (src.new ≡ src.old) × (out.new ≡ out.old)) ⊎ Claims result (map string_bytes words.now) (ways
         (S.left src.old) (S.left src.new) (S.faults src.old) (S.faults src.new)
@@ -29,25 +30,18 @@ fn run_words<S: Source, K: Sink, E: Sink>(
         }
     }
     let mut trace = NoSink::new();
-    let mut disks = FileDisks::new();
-    usb_top(
-        alloc,
-        texts.as_slice(),
-        src,
-        out,
-        err,
-        &mut trace,
-        &mut disks,
-    )
+    usb_top(alloc, texts.as_slice(), src, out, err, &mut trace, disks)
 }
 
-/// Runs the program on the process's words, of which the first is the program's name, and on the process's streams.
+/// Runs the program on the process's words, of which the first is the program's name, and on the process's streams and
+/// files.
 pub fn run_process(
     alloc: Global,
     args: &[String],
     src: &mut StdinSource,
     out: &mut StdoutSink,
     err: &mut StderrSink,
+    disks: &mut FileDisks,
 ) -> Status
     ensures claims { ((result ≡ Status.NoMemory) × (src.new ≡ src.old) × (out.new ≡ out.old)) ⊎ Claims result (map string_bytes (drop 1 args.now)) (ways
         (⟦<StdinSource as Source>⟧.left src.old) (⟦<StdinSource as Source>⟧.left src.new)
@@ -56,7 +50,7 @@ pub fn run_process(
         (⟦<StdoutSink as Sink>⟧.faults out.old) (⟦<StdoutSink as Sink>⟧.faults out.new)
         None None 0 0) }
 {
-    run_words(alloc, behind_first(args), src, out, err)
+    run_words(alloc, behind_first(args), src, out, err, disks)
 }
 
 /// The words behind the first one.

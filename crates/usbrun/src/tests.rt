@@ -2,7 +2,7 @@ use crate::status::Status;
 use crate::top::usb_top;
 use std::alloc::Global;
 use std::test::Fail;
-use usb_edge::{FileDisks, MemSink, MemSource, NoSink};
+use usb_edge::{MemDisks, MemSink, MemSource, NoSink};
 
 const HEAD: &str =
     "device 1201000200000040feca0140000100000001\nconfig 0902120001010080320904000000ff000000\nbegin\n";
@@ -52,7 +52,7 @@ fn run_job(alloc: Global, words: &[&str], job: &str, trial: Trial) -> Result<Out
     let mut out = MemSink::new(alloc, 65536, writes)?;
     let mut err = MemSink::new(alloc, 64, Vec::new(alloc))?;
     let mut trace = MemSink::new(alloc, 262_144, marks)?;
-    let mut disks = FileDisks::new();
+    let mut disks = MemDisks::new(Vec::new(alloc), Vec::new(alloc));
     let status = usb_top(
         alloc, words, &mut src, &mut out, &mut err, &mut trace, &mut disks,
     );
@@ -504,7 +504,7 @@ fn errors_change_nothing(rt: HostRuntime) -> Result<(), Fail> {
         let mut out = MemSink::new(rt.alloc(), 64, Vec::new(rt.alloc()))?;
         let mut err = MemSink::new(rt.alloc(), room, [fail].to_vec(rt.alloc())?)?;
         let mut trace = NoSink::new();
-        let mut disks = FileDisks::new();
+        let mut disks = MemDisks::new(Vec::new(rt.alloc()), Vec::new(rt.alloc()));
         let status = usb_top(
             rt.alloc(),
             &["device"],
