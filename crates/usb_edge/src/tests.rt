@@ -1,5 +1,4 @@
-ghost use Rattle.std.specs.Prelude.{◌≡◌, [], ◌∷◌};
-ghost use Rattle.usb_edge.specs.Disk.{HasBlock};
+ghost use Rattle.std.specs.Prelude.{[], ◌∷◌};
 
 use crate::{
     DiskFault, Disks, Got, MOST_TEXT, MemSink, MemSource, NoSink, Sink, Source, StderrSink,
@@ -94,14 +93,22 @@ fn texts_in_memory(rt: HostRuntime) -> Result<(), Fail> {
     Ok(())
 }
 
-/// The block of a disk.
-pub(crate) fn block<D: Disks>(disks: &mut D, slot: u8, lba: u32) -> Result<[u8; 512], DiskFault>
-    requires { HasBlock (D.size disks.old slot) lba }
-    ensures { D.size disks.new ≡ D.size disks.old }
-{
-    let mut buf = [0; 512];
-    match disks.read(slot, lba, &mut buf) {
-        Ok(()) => Ok(buf),
-        Err(fault) => Err(fault),
+/// Attaches a disk, fills a block of it with a byte and reads that block and the first one: the disk's size, and a byte of each.
+pub(crate) fn fill_block<D: Disks>(
+    disks: &mut D,
+    name: &str,
+    lba: u32,
+    byte: u8,
+) -> Result<(u64, u8, u8), DiskFault> {
+    let size = disks.attach(0, name)?;
+    if size / 512 <= lba as u64 {
+        return Ok((size, 0, 0));
     }
+    disks.write(0, lba, &[byte; 512])?;
+    disks.sync(0)?;
+    let mut block = [0; 512];
+    disks.read(0, lba, &mut block)?;
+    let last = block[511];
+    disks.read(0, 0, &mut block)?;
+    Ok((size, last, block[511]))
 }

@@ -1,33 +1,24 @@
 use super::*;
-use crate::tests::block;
+use crate::tests::fill_block;
 use std::fs;
 use std::io::ErrorKind;
 use std::test::Fail;
 
-/// A file of two blocks and 7 bytes more is read and written in place. What isn't there, what is a folder, and a file that
-/// was cut since give faults.
+/// A file of two blocks and 7 bytes more is read and written in place. What isn't there and what is a folder give faults.
 #[test]
 fn files(rt: HostRuntime) -> Result<(), Fail> {
     fs::write(&rt, "disk", [5; 1031].as_slice())?;
     fs::create_dir(&rt, "folder")?;
     let mut disks = FileDisks::new(rt);
-    assert_eq!(rt; disks.attach(0, "absent"), Err(DiskFault));
-    assert_eq!(rt; disks.attach(0, "folder"), Err(DiskFault));
-    assert_eq!(rt; disks.faults, 2);
-    assert_eq!(rt; disks.attach(0, "disk"), Ok(1031));
-    assert_eq!(rt; disks.write(0, 1, &[6; 512]), Ok(()));
-    assert_eq!(rt; block(&mut disks, 0, 0), Ok([5; 512]));
-    assert_eq!(rt; block(&mut disks, 0, 1), Ok([6; 512]));
-    assert_eq!(rt; disks.sync(0), Ok(()));
+    assert_eq!(rt; fill_block(&mut disks, "absent", 1, 6), Err(DiskFault));
+    assert_eq!(rt; fill_block(&mut disks, "folder", 1, 6), Err(DiskFault));
+    assert_eq!(rt; fill_block(&mut disks, "disk", 1, 6), Ok((1031, 6, 5)));
     let file = fs::read(&rt, "disk")?;
-    assert_eq!(rt; &file[..512], [5; 512].as_slice());
-    assert_eq!(rt; &file[512..1024], [6; 512].as_slice());
-    assert_eq!(rt; &file[1024..], [5; 7].as_slice());
-    assert_eq!(rt; disks.faults, 2);
-    fs::write(&rt, "disk", [5; 1000].as_slice())?;
-    assert_eq!(rt; block(&mut disks, 0, 1), Err(DiskFault));
-    assert_eq!(rt; block(&mut disks, 0, 0), Ok([5; 512]));
-    assert_eq!(rt; disks.faults, 3);
+    assert_eq!(rt; file.len(), 1031);
+    assert_eq!(rt;
+        [file[511], file[512], file[1023], file[1024]],
+        [5, 6, 6, 5]
+    );
     Ok(())
 }
 
