@@ -3,3 +3,4 @@ pub mod Memory
 pub mod Outcome
 pub mod System
 pub mod Disk
+pub mod DiskLaws

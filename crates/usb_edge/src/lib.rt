@@ -3,6 +3,7 @@
 
 mod disks;
 mod files;
+pub mod laws;
 mod memory;
 mod real;
 mod shelf;
