@@ -320,7 +320,7 @@ with_medium_sound unit h =
     cond_both (unit.blocks == 0) _ _ (IsUnit unit.blocks) (λ _. (h, refl))
     (λ some. (record { given = λ _. omega (arith, eqb-false unit.blocks 0 some) }, refl))
 
-unit_sound : (unit : Disk) (call : MscDeviceCall) → IsSoundUnit unit → IsUnit unit.blocks (unit_after unit call)
+pub unit_sound : (unit : Disk) (call : MscDeviceCall) → IsSoundUnit unit → IsUnit unit.blocks (unit_after unit call)
 unit_sound unit Eject h = (record { given = λ no. absurd (both_ways false refl no) }, refl)
 unit_sound unit Insert h = with_medium_sound unit h
 unit_sound unit (Protect on) h = (record { given = h.given }, refl)

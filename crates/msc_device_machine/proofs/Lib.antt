@@ -3,3 +3,8 @@ pub mod Keeps
 pub mod Table
 pub mod Faults
 pub mod Pipes
+pub mod Shelves
+pub mod Blocks
+pub mod BlockSteps
+pub mod Named
+pub mod BlockRuns

@@ -292,7 +292,7 @@ unmoved_pipes t w r move.Sync h = record { turn_ = quiet_turn t h; idle = asking
 unmoved_pipes t w r (move.Fail sense) h = record { turn_ = end_pipes t r.halts w.tag w.length 1 h; idle = tt }
 
 -- the same pipes beside another storage
-beside : (t : Turn) (s : Storage) → s.came ≡ t.storage.came → s.ended ≡ t.storage.ended → s.under_way ≡ t.storage.under_way → Quiet t → Quiet (turned s t.own)
+pub beside : (t : Turn) (s : Storage) → s.came ≡ t.storage.came → s.ended ≡ t.storage.ended → s.under_way ≡ t.storage.under_way → Quiet t → Quiet (turned s t.own)
 beside t s a b c h = record {
   room = h.room;
   no_packet = a ∙ h.no_packet;
@@ -391,7 +391,7 @@ noted_turn s own e h = record {
   };
 }
 
-ended_quiet : (s : Storage) (own : Own) → s.came ≡ false → s.ended ≡ true → wants_packet s.transport ≡ false → PipesFit s own → Quiet (turned (noted s) own)
+pub ended_quiet : (s : Storage) (own : Own) → s.came ≡ false → s.ended ≡ true → wants_packet s.transport ≡ false → PipesFit s own → Quiet (turned (noted s) own)
 ended_quiet s own c e w h =
     let u = h.sends.apart e in
     let q : Queued s.transport true own.sends.pipe.queue = rw e at h.sends.queue in
@@ -415,7 +415,7 @@ at_end_pipes Command s own t c e h = record { turn_ = noted_turn s own c h; idle
 at_end_pipes Broken s own t c e h = record { turn_ = noted_turn s own c h; idle = tt }
 at_end_pipes (Receiving flow) s own t c e h = record { turn_ = noted_turn s own c h; idle = tt }
 
-came_quiet : (s : Storage) (own : Own) → s.came ≡ true → PipesFit s own → Quiet (turned (noted s) (with_packet_read own))
+pub came_quiet : (s : Storage) (own : Own) → s.came ≡ true → PipesFit s own → Quiet (turned (noted s) (with_packet_read own))
 came_quiet s own c h =
     let w = h.receives.taken c in
     let u = false_from_ne_true s.under_way (λ (u : s.under_way ≡ true). both_ways (wants_packet s.transport) (h.sends.way u).0 w) in
@@ -479,7 +479,7 @@ taken_up_pipes s own h =
 
 -- What the disk's answer leaves.
 
-quiet_of : (t : Turn) → TurnPipes t → (t.own.sends.pipe.queue ≡ []) × (t.storage.under_way ≡ false) × (is_armed t.own.receives.pipe.phase ≡ false) → Quiet t
+pub quiet_of : (t : Turn) → TurnPipes t → (t.own.sends.pipe.queue ≡ []) × (t.storage.under_way ≡ false) × (is_armed t.own.receives.pipe.phase ≡ false) → Quiet t
 quiet_of t h i = record {
   room = h.room;
   no_packet = h.no_packet;

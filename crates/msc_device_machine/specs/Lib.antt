@@ -6,4 +6,6 @@ pub mod Device
 pub mod Sound
 pub mod Laws
 pub mod Runs
+pub mod Story
+pub mod BlockLaws
 pub mod Examples

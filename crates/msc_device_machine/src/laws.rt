@@ -1,4 +1,5 @@
 //! Laws of the definitions. The functions do nothing: their clauses are the laws.
+ghost use Rattle.msc_device_machine.specs.BlockLaws.{WritesStand, FirstBlocksAreWritten, OthersChangeNothing, DataIsRight, StatusIsRight, BlocksAreNamed};
 ghost use Rattle.msc_device_machine.specs.Examples.{Wrappers, HostExpectsNothing, HostExpectsData, HostSendsData, Reads, ReadFaults, Writes, WriteFaults, Synchronizes, PhaseErrors, Clears, Resets, Requests, Sessions, Medium};
 ghost use Rattle.msc_device_machine.specs.Laws.{BeginsSound, KeepsSound, WorksSound, AsksWithin, CasesAgree, MovesNoMore, HaltsWhatIsDue, NothingInPhaseErrors, OneCall, FaultsAreTold, PacketsAreWaitedFor};
 
@@ -30,6 +31,26 @@ pub fn disk_is_asked_once()
 /// In every run a packet is taken only where one is waited for, and never beside a transfer for the host.
 pub fn packets_are_waited_for()
     ensures { PacketsAreWaitedFor }
+{}
+
+/// In every run: a write that is reported with status 0 stands on the disk whole, as it came; one that failed or was cut off changed
+/// the first blocks of its range and nothing else; no other command changes a block of any disk.
+pub fn blocks_are_kept()
+    ensures stand { WritesStand }
+    ensures first { FirstBlocksAreWritten }
+    ensures others { OthersChangeNothing }
+{}
+
+/// In every run: what was sent for a command is right, and whole with status 0; its status wrapper has its tag, and tells what wasn't
+/// moved.
+pub fn commands_are_answered()
+    ensures data { DataIsRight }
+    ensures status { StatusIsRight }
+{}
+
+/// READ(10) and WRITE(10), and no other command, move the blocks that they name (SBC-2).
+pub fn blocks_are_named()
+    ensures { BlocksAreNamed }
 {}
 
 /// These wrappers are good or not, and the thirteen cases end so (Bulk-Only Transport 1.0, 6.2 and 6.7).
