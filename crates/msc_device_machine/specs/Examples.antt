@@ -9,6 +9,9 @@ use Rattle.usb_edge.specs.Disk.{Shelf}
 use Rattle.scsi_core.specs.declared.Unit.{Unit as Disk}
 use Rattle.msc_device_machine.specs.Wrapper.{is_good, wrapper_of, status_wrapper}
 use Rattle.msc_device_machine.specs.Storage.{decided}
+use Rattle.scsi_core.specs.declared.Move.TheVariants as move
+use Rattle.msc_device_machine.specs.Story.{Story, here}
+use Rattle.msc_device_machine.specs.BlockLaws.{HasDisk, told}
 use Rattle.msc_device_machine.specs.Runs.{Turn, Run, Comes, Leaves, HaltsIn, ClearsIn, HaltsOut, ClearsOut, Asks, Calls, Begins, Stops, Works, made, is_armed, is_running, in_of, out_of, after_turns}
 
 -- A device whose rings have 512 bytes, and its disk of two blocks, the first of ones, the second of twos. One call, the one that attached the
@@ -427,3 +430,21 @@ pub record Medium : Type 0 where
   pub protected_told : Shows [] (Calls (Protect true) ∷ writes_one (ClearsOut ∷ Leaves ∷ asks_in 18 0 request_sense ∷ [])) (sends (sense_data 7 0x27))
   -- an eject in the middle doesn't stop a command
   pub middle : Shows [] (asks_in 0 4 (read 0 2) ∷ Calls Eject ∷ Leaves ∷ []) (sends twos)
+
+-- What is kept of a command (specs/Story), worked out for a write and for a read that the disk stops.
+abbrev pub story : List ℕ → List Turn → Story
+story fails turns = told 2 pipes (shelf_of (ones ++ twos) 1 fails) (tasked (Begins ∷ turns))
+
+pub record Stories : Type 0 where
+  pub disk : HasDisk 2 pipes (shelf_of (ones ++ twos) 1 [])
+  pub writes : (story [] (writes_one (packets 7))).wants ≡ move.Write 1 1
+  pub came : (story [] (writes_one (packets 7))).came ≡ sevens
+  pub status : (story [] (writes_one (packets 7))).status ≡ csw 0 0 0
+  pub before : here (story [] (writes_one (packets 7))).before ≡ ones ++ twos
+  pub wrapper : (story [] (writes_one (packets 7))).wrapper.tag ≡ 0xaabbccdd
+  pub reads : (story (3 ∷ []) (asks_in 0 4 (read 0 2) ∷ Leaves ∷ [])).wants ≡ move.Read 0 2
+  pub went : (story (3 ∷ []) (asks_in 0 4 (read 0 2) ∷ Leaves ∷ [])).went ≡ ones
+  pub failed : (story (3 ∷ []) (asks_in 0 4 (read 0 2) ∷ Leaves ∷ [])).failed ≡ true
+  pub read_status : (story (3 ∷ []) (asks_in 0 4 (read 0 2) ∷ Leaves ∷ [])).status ≡ csw 0 2 1
+  -- a command takes the place of the one before it
+  pub next : (story [] (writes_one (joined (packets 7) (Leaves ∷ asks_in 0 0 ready ∷ [])))).came ≡ []

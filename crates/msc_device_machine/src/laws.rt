@@ -1,6 +1,6 @@
 //! Laws of the definitions. The functions do nothing: their clauses are the laws.
 ghost use Rattle.msc_device_machine.specs.BlockLaws.{WritesStand, FirstBlocksAreWritten, OthersChangeNothing, DataIsRight, StatusIsRight, BlocksAreNamed};
-ghost use Rattle.msc_device_machine.specs.Examples.{Wrappers, HostExpectsNothing, HostExpectsData, HostSendsData, Reads, ReadFaults, Writes, WriteFaults, Synchronizes, PhaseErrors, Clears, Resets, Requests, Sessions, Medium};
+ghost use Rattle.msc_device_machine.specs.Examples.{Wrappers, HostExpectsNothing, HostExpectsData, HostSendsData, Reads, ReadFaults, Writes, WriteFaults, Synchronizes, PhaseErrors, Clears, Resets, Requests, Sessions, Medium, Stories};
 ghost use Rattle.msc_device_machine.specs.Laws.{BeginsSound, KeepsSound, WorksSound, AsksWithin, CasesAgree, MovesNoMore, HaltsWhatIsDue, NothingInPhaseErrors, OneCall, FaultsAreTold, PacketsAreWaitedFor};
 
 /// What a device still has to move lies on its disk, and is no more than the host expects: so it is at the start, and so all that
@@ -78,4 +78,5 @@ pub fn sequences_worked()
     ensures requests { Requests }
     ensures sessions { Sessions }
     ensures medium { Medium }
+    ensures stories { Stories }
 {}
